@@ -1,0 +1,9 @@
+//! The bundle: many chip texts in one run of bytes, under a table of contents.
+mod breach;
+mod check;
+mod opened;
+
+pub use breach::Breach;
+pub use breach::FaultFromBreach;
+pub use opened::Bundle;
+pub use opened::Entry;
