@@ -18,14 +18,14 @@ pub names-rise : (s : List ℕ) → Layout s → (i j : ℕ) → i < j → j < c
 names-rise s lay i zero l h = absurd (omega arith)
 names-rise s lay i (suc j) l h =
     ⊎-elim
-      (λ m. before-trans _ _ _ (names-rise s lay i j m (omega arith)) (next-rises s lay j h))
-      (λ m. let at : j ≡ i = omega arith in subst (λ k. Before (name s k) (name s (suc j))) at (next-rises s lay j h))
-      (cases-lt i j)
+    (λ m. before-trans _ _ _ (names-rise s lay i j m (omega arith)) (next-rises s lay j h))
+    (λ m. let at : j ≡ i = omega arith in subst (λ k. Before (name s k) (name s (suc j))) at (next-rises s lay j h))
+    (cases-lt i j)
 
 pub one-name : (s : List ℕ) → Layout s → (i j : ℕ) → i < count s → j < count s → name s i ≡ name s j → i ≡ j
 one-name s lay i j a b e =
     ⊎-elim (λ same. same)
     (⊎-elim
-      (λ l. absurd (before-irrefl (name s j) (subst (λ n. Before n (name s j)) e (names-rise s lay i j l b))))
-      (λ l. absurd (before-irrefl (name s j) (subst (λ n. Before (name s j) n) e (names-rise s lay j i l a)))))
+    (λ l. absurd (before-irrefl (name s j) (subst (λ n. Before n (name s j)) e (names-rise s lay i j l b))))
+    (λ l. absurd (before-irrefl (name s j) (subst (λ n. Before (name s j) n) e (names-rise s lay j i l a)))))
     (cases-order i j)

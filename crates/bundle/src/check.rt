@@ -86,7 +86,10 @@ fn rises(bytes: &[u8], k: usize) -> bool
     if k == 0 {
         return true;
     }
-    matches!(text::compare(name_at(bytes, k - 1), name_at(bytes, k)), Ordering::Less)
+    matches!(
+        text::compare(name_at(bytes, k - 1), name_at(bytes, k)),
+        Ordering::Less
+    )
 }
 
 /// Checks the entry `k`, whose text is to start at `end`, and answers where it ends.

@@ -50,8 +50,8 @@ same-order (x ∷ xs) [] h = absurd (let z : _≡_ {A = ℕ} 0 1 = cc in omega a
 same-order (x ∷ xs) (y ∷ ys) h =
     ⊎-elim (λ e. let rest = same-order xs ys (sym (order-next x y xs ys e) ∙ h) in cc)
     (⊎-elim
-      (λ l. let e = order-less x y xs ys l in absurd (let z : _≡_ {A = ℕ} 0 1 = cc in omega arith))
-      (λ l. let e = order-greater x y xs ys l in absurd (let z : _≡_ {A = ℕ} 0 1 = cc in omega arith)))
+    (λ l. let e = order-less x y xs ys l in absurd (let z : _≡_ {A = ℕ} 0 1 = cc in omega arith))
+    (λ l. let e = order-greater x y xs ys l in absurd (let z : _≡_ {A = ℕ} 0 1 = cc in omega arith)))
     (cases-order x y)
 
 pub before-irrefl : (xs : List ℕ) → Before xs xs → ⊥
@@ -73,9 +73,9 @@ before-trans xs (y ∷ ys) [] h g = absurd (let z : _≡_ {A = ℕ} 0 1 = cc in 
 before-trans [] (y ∷ ys) (z ∷ zs) h g = refl
 before-trans (x ∷ xs) (y ∷ ys) (z ∷ zs) h g =
     ⊎-elim
-      (λ l. ⊎-elim (λ m. order-less x z xs zs (omega arith)) (λ m. let e = m .0 in order-less x z xs zs (omega arith)) (before-heads y z ys zs g))
-      (λ l. let d = l .0 in ⊎-elim (λ m. order-less x z xs zs (omega arith)) (λ m. order-next x z xs zs (d ∙ m .0) ∙ before-trans xs ys zs (l .1) (m .1)) (before-heads y z ys zs g))
-      (before-heads x y xs ys h)
+    (λ l. ⊎-elim (λ m. order-less x z xs zs (omega arith)) (λ m. let e = m .0 in order-less x z xs zs (omega arith)) (before-heads y z ys zs g))
+    (λ l. let d = l .0 in ⊎-elim (λ m. order-less x z xs zs (omega arith)) (λ m. order-next x z xs zs (d ∙ m .0) ∙ before-trans xs ys zs (l .1) (m .1)) (before-heads y z ys zs g))
+    (before-heads x y xs ys h)
 
 -- a name after another has it before
 pub order-flip : (xs ys : List ℕ) → order xs ys ≡ Greater → Before ys xs
@@ -86,6 +86,6 @@ order-flip (x ∷ xs) [] h = refl
 order-flip (x ∷ xs) (y ∷ ys) h =
     ⊎-elim (λ e. order-next y x ys xs (sym e) ∙ order-flip xs ys (sym (order-next x y xs ys e) ∙ h))
     (⊎-elim
-      (λ l. let e = order-less x y xs ys l in absurd (let z : _≡_ {A = ℕ} 0 1 = cc in omega arith))
-      (λ l. order-less y x ys xs l))
+    (λ l. let e = order-less x y xs ys l in absurd (let z : _≡_ {A = ℕ} 0 1 = cc in omega arith))
+    (λ l. order-less y x ys xs l))
     (cases-order x y)

@@ -7,7 +7,8 @@ use Rattle.bundle.proofs.check.check_entries.Needs as need
 
 pub loop-k-again : need.loop-k-again
 loop-k-again c =
-    let told = c .in-Continue-end .ensures tt in
-    (below-more _ _ (c .loop-k .inv .0) (told .0),
-     told .1 ∙ sym (ap (end-before (c .args .bytes .now)) (add-one (c .loop-k .k))),
-     omega (arith, told .1, told .0 .within))
+    let told = c .in-Continue-end .ensures tt in (
+      below-more _ _ (c .loop-k .inv .0) (told .0),
+      told .1 ∙ sym (ap (end-before (c .args .bytes .now)) (add-one (c .loop-k .k))),
+      omega (arith, told .1, told .0 .within),
+    )

@@ -10,6 +10,7 @@ pub returns-in-Equal : need.returns-in-Equal
 returns-in-Equal c = (λ _. same-order _ _ (sym (c .in-Equal .ensures tt)), λ _. refl)
 
 pub returns-in-rest : need.returns-in-rest
-returns-in-rest c =
-    (λ e. absurd (both-ways true (sym e) refl),
-     λ e. absurd (c .in-rest .not-Equal (c .compare .ensures ∙ ap (order (c .args .a .now)) (sym e) ∙ order-same _)))
+returns-in-rest c = (
+  λ e. absurd (both-ways true (sym e) refl),
+  λ e. absurd (c .in-rest .not-Equal (c .compare .ensures ∙ ap (order (c .args .a .now)) (sym e) ∙ order-same _)),
+)
