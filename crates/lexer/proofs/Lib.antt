@@ -1,0 +1,9 @@
+pub mod Bytes
+pub mod Sorts
+pub mod Runs
+pub mod Numerals
+pub mod Gapless
+pub mod Single
+pub mod OneAnswer
+pub mod Spellings
+pub mod Instances
