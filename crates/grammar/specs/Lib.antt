@@ -1,0 +1,4 @@
+pub mod Tree
+pub mod Spelling
+pub mod Progress
+pub mod Sentences
