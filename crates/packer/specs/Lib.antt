@@ -1,0 +1,4 @@
+pub mod Rules
+pub mod Breaks
+pub mod Written
+pub mod Packed
