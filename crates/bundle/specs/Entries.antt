@@ -10,11 +10,11 @@ use Rattle.bundle.specs.Layout.{Layout, count, row, name, start, size, text}
 -- the bundle stands for bytes that keep the layout
 pub record Opened (b : Bundle) : Type 0 where
   pub layout : Layout (b .bytes .now)
-  pub counted : b .count ≡ count (b .bytes .now)
+  pub counted : b .entries ≡ count (b .bytes .now)
 
 -- the row and the text of the k-th entry lie within the bundle
 pub record Lies (b : Bundle) (k : ℕ) : Type 0 where
-  pub below : k < b .count
+  pub below : k < b .entries
   pub listed : row (k + 1) ≤ length (b .bytes .now)
   pub within : start (b .bytes .now) k + size (b .bytes .now) k ≤ length (b .bytes .now)
 

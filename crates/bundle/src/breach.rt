@@ -6,7 +6,7 @@ use fault::Cause;
 use fault::Fault;
 
 /// The first rule that the bytes break. Entries are numbered from 0.
-#[derive(Clone, Copy, Debug)]
+#[derive(Clone, Copy, Debug, PartialEq)]
 pub enum Breach {
     /// Fewer than the two bytes that hold the number of entries.
     NoCount,

@@ -4,6 +4,8 @@ mod check;
 mod opened;
 
 pub use breach::Breach;
+pub use breach::BreachDebug;
+pub use breach::BreachPartialEq;
 pub use breach::FaultFromBreach;
 pub use opened::Bundle;
 pub use opened::Entry;

@@ -19,7 +19,7 @@ use fault::Fault;
 #[derive(Clone, Copy)]
 pub struct Bundle<'a> {
     bytes: &'a [u8],
-    count: usize,
+    entries: usize,
 }
 
 /// An entry: its name, where its text starts in the bundle, and the text.
@@ -42,14 +42,17 @@ impl<'a> Bundle<'a> {
         };
         let count = usize::from(*low) + 256 * usize::from(*high);
         check(bytes, count, rest)?;
-        Ok(Bundle { bytes, count })
+        Ok(Bundle {
+            bytes,
+            entries: count,
+        })
     }
 
     /// How many entries there are.
     pub fn count(&self) -> usize
-        ensures { λ r. ⌜ r ≡ now (self .entry) .count ⌝ }
+        ensures { λ r. ⌜ r ≡ now (self .entry) .entries ⌝ }
     {
-        self.count
+        self.entries
     }
 
     /// The entry `k`, or `None` where there is no such entry.
@@ -57,7 +60,7 @@ impl<'a> Bundle<'a> {
         ensures { λ r. ⌜ Cases r (Lies (now (self .entry)) k → ⊥) (λ e. EntryAt (now (self .entry)) k e) ⌝ }
     {
         let bytes = self.bytes;
-        if k >= self.count || k >= bytes.len().saturating_sub(2) / ROW {
+        if k >= self.count() || k >= bytes.len().saturating_sub(2) / ROW {
             return None;
         }
         let row = 2 + ROW * k;
@@ -80,7 +83,7 @@ impl<'a> Bundle<'a> {
             (λ k. Goes (now (self .entry)) (now (name .entry)) k × ((j : ℕ) → j < k → Goes (now (self .entry)) (now (name .entry)) j → ⊥)) ⌝ }
         ensures only { λ r. ⌜ (Opened (now (self .entry)) → (k : ℕ) → Goes (now (self .entry)) (now (name .entry)) k → r ≡ Some k) ⌝ }
     {
-        for k in 0..self.count {
+        for k in 0..self.count() {
             if let Some(entry) = self.entry(k) {
                 if text::same(entry.name, name) {
                     return Some(k);

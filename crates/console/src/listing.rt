@@ -40,7 +40,7 @@ fn put_entry(
 /// The length of the longest name.
 fn name_width(bundle: &Bundle<'_>) -> usize
     requires { ⌜ Opened (now bundle) ⌝ }
-    ensures { λ r. ⌜ r ≡ widest (now (bundle .entry) .bytes .now) (now (bundle .entry) .count) ⌝ }
+    ensures { λ r. ⌜ r ≡ widest (now (bundle .entry) .bytes .now) (now (bundle .entry) .entries) ⌝ }
 {
     let mut width: usize = 0;
     for k in 0..bundle.count() {
@@ -60,7 +60,7 @@ fn put_entries(
 ) -> Result<(), AllocError>
     requires { ⌜ Opened (now bundle) ⌝ }
     ensures { λ r. ⌜ made r (λ _. vec-items (now (page .exit)) ≡
-        vec-items (now (page .entry)) ++ lines (now (bundle .entry) .bytes .now) width (now (bundle .entry) .count)) ⌝ }
+        vec-items (now (page .entry)) ++ lines (now (bundle .entry) .bytes .now) width (now (bundle .entry) .entries)) ⌝ }
 {
     for k in 0..bundle.count() {
         if let Some(entry) = bundle.entry(k) {

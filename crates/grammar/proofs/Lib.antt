@@ -1,0 +1,4 @@
+pub mod Fronts
+pub mod Runs
+pub mod Endings
+pub mod Grammar

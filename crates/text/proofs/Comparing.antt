@@ -89,3 +89,7 @@ order-flip (x ∷ xs) (y ∷ ys) h =
     (λ l. let e = order-less x y xs ys l in absurd (let z : _≡_ {A = ℕ} 0 1 = cc in omega arith))
     (λ l. order-less y x ys xs l))
     (cases-order x y)
+
+-- names that do not compare as equal are not the same
+pub unlike-order : (xs ys : List ℕ) → (order xs ys ≡ Equal → ⊥) → xs ≡ ys → ⊥
+unlike-order xs ys h e = h (ap (order xs) (sym e) ∙ order-same xs)
