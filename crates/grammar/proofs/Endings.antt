@@ -9,7 +9,7 @@ use Rattle.std.specs.declared.option.Option.the-variants.{Some, None}
 use Rattle.lexer.specs.Lexemes.{Lexeme, name, number, fixed}
 use Rattle.grammar.specs.Tree as tree
 use Rattle.grammar.specs.Tree.{Name, Row, Pin, Subscript, all, bit, range, Part, Header, Chip}
-use Rattle.grammar.specs.Progress.{Side, ins, outs, Line, End, near, far, State, start, chip, called, opened, pin, pin-named, width-open, width-read, pin-wide, ins-read, headed, parts, first-line, next-line, part-named, connection, end-named, sub-open, sub-low, sub-dots, sub-high, end-read, equals, constant-read, closed, done, Next, go, stop, pins-read, part-of, follow, run}
+use Rattle.grammar.specs.Progress.{Side, ins, outs, Line, End, near, far, State, start, chip, called, opened, pin, pin-named, width-open, width-read, pin-wide, ins-read, headed, parts, first-line, next-line, part-named, connection, end-named, sub-open, sub-low, sub-dots, sub-high, end-read, equals, constant-read, closed, done, go, pins-read, part-of, follow, run}
 
 -- lexemes that lead from a state to the end of a chip
 pub record Ending (st : State) : Type 0 where

@@ -6,9 +6,9 @@ use native.Mathlib.Omega.{arith}
 use Rattle.lexer.specs.Lexemes.{Lexeme}
 use Rattle.grammar.specs.Tree.{Chip}
 use Rattle.grammar.specs.Spelling.{chip-words}
-use Rattle.grammar.specs.Progress.{State, start, done, Next, go, stop, follow, run, Live}
+use Rattle.grammar.specs.Progress.{State, start, done, go, stop, follow, run, Live}
 use Rattle.grammar.specs.Sentences.{Sentence, Viable, ReadsGrammar}
-use Rattle.grammar.proofs.Fronts.{front, front-is}
+use Rattle.grammar.proofs.Fronts.{front-is}
 use Rattle.grammar.proofs.Runs.{run-append, run-push, run-stop, reads}
 use Rattle.grammar.proofs.Endings.{Ending, ending}
 

@@ -1,13 +1,13 @@
 -- A chip's lexemes are read as that chip.
 use mathlib.Core.Path.{_≡_, refl, sym, ap, _∙_}
-use mathlib.Core.Bool.{Bool, true, false}
+use mathlib.Core.Bool.{true, false}
 use mathlib.Core.List.{List, [], _∷_, _++_, append-nil, append-assoc}
 use Prim.Native.Nat.{ℕ}
 use lib.Chars.{codes}
 use Rattle.std.specs.Joined.{joined}
 use Rattle.std.specs.declared.option.Option.{Option}
 use Rattle.std.specs.declared.option.Option.the-variants.{Some, None}
-use Rattle.lexer.specs.Lexemes.{Lexeme, name, number, fixed}
+use Rattle.lexer.specs.Lexemes.{Lexeme, fixed}
 use Rattle.grammar.specs.Tree as tree
 use Rattle.grammar.specs.Tree.{Name, Row, items, Pin, Subscript, all, bit, range, FarEnd, Connection, Part, Header, Chip}
 use Rattle.grammar.specs.Spelling.{mark, named, separated, pin-words, pins-words, subscript-words, far-words, connection-words, part-words, header-words, parts-words, chip-words}
@@ -86,6 +86,7 @@ module _ (l : Line) (n : Name) where
   last-far s (tree.pin f (bit m)) ws = refl
   last-far s (tree.pin f (range m k)) ws = refl
 
+-- its lexemes, one group behind another
 apart : (c : Connection) (ws : List Lexeme) → connection-words c ++ ws ≡ named (c .near) ++ (subscript-words (c .bits) ++ (fixed (codes "=") ∷ (far-words (c .far) ++ ws)))
 apart c ws = simp append-assoc
 
