@@ -6,11 +6,11 @@ ghost use lib.ListN.{length, getD};
 ghost use Rattle.catalogue.specs.Records.{Records, blank-pin, none};
 ghost use Rattle.catalogue.specs.Holding.{Fills, Lent, Long, with-connection, with-part, with-pin};
 use crate::fill_blank;
-use crate::room::Catalogue;
-use crate::room::Counts;
 use crate::records::ConnectionRecord;
 use crate::records::PartRecord;
 use crate::records::PinRecord;
+use crate::room::Catalogue;
+use crate::room::Counts;
 
 impl<'c> Catalogue<'c> {
     /// A catalogue over memory that is lent, made blank.
@@ -45,7 +45,11 @@ impl<'c> Catalogue<'c> {
     pub fn pin(&self, i: usize) -> PinRecord
         ensures { λ r. ⌜ r ≡ getD (now (self .entry) .pins .now) i blank-pin ⌝ }
     {
-        if i < self.pins.len() { self.pins[i] } else { PinRecord::BLANK }
+        if i < self.pins.len() {
+            self.pins[i]
+        } else {
+            PinRecord::BLANK
+        }
     }
 
     /// One pin more, if there is room.

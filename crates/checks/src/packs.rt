@@ -1,11 +1,11 @@
 //! What is packed comes back, and what is refused is told.
 use bundle::Bundle;
-use console::list;
 use packer::PackFault;
 use packer::PackFaultDebug;
 use packer::PackFaultPartialEq;
 use packer::Source;
 use packer::pack;
+use report::list;
 use std::alloc::Global;
 use std::test::*;
 

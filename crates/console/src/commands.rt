@@ -1,14 +1,14 @@
 //! The commands of the program: what they read, write and print.
 ghost use Prim.Native.Nat.{_≤_};
 ghost use lib.ListN.{length};
-use crate::report::Report;
-use crate::report::list;
 use crate::wording::USAGE;
 use crate::wording::pack_refusal;
 use packer::PackFault;
 use packer::PackFaultFromAlloc;
 use packer::Source;
 use packer::pack;
+use report::Report;
+use report::list;
 use std::alloc::AllocError;
 use std::alloc::Global;
 use std::alloc::Refused;

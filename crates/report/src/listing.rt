@@ -7,7 +7,7 @@ ghost use Rattle.std.specs.Of.Vec.{vec-items};
 ghost use Rattle.std.specs.Vec.{made};
 ghost use Rattle.bundle.specs.Entries.{EntryAt, Opened};
 ghost use Rattle.bundle.specs.declared.opened.Bundle.{Bundle as Bundled};
-ghost use Rattle.console.specs.Columns.{line, lines, listing as listed, total, widest};
+ghost use Rattle.report.specs.Columns.{line, lines, listing as listed, total, widest};
 use crate::columns::put_left;
 use crate::columns::put_right;
 use bundle::Bundle;

@@ -6,7 +6,7 @@ ghost use lib.ListN.{length, replicate};
 ghost use Rattle.std.specs.Of.Vec.{vec-items};
 ghost use Rattle.std.specs.Vec.{made};
 ghost use Rattle.std.specs.Written.{decimal};
-ghost use Rattle.console.specs.Columns.{left, right};
+ghost use Rattle.report.specs.Columns.{left, right};
 use std::alloc::AllocError;
 use std::alloc::Global;
 

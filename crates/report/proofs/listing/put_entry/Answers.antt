@@ -8,9 +8,9 @@ use Rattle.std.specs.Of.Vec.{vec-items}
 use Rattle.std.specs.Written.{decimal}
 use Rattle.std.proofs.shelf.Edits.{length-between}
 use Rattle.bundle.specs.Layout.{name, start, size}
-use Rattle.console.specs.Columns.{left, right}
-use Rattle.console.proofs.Growing.{grown}
-use Rattle.console.proofs.listing.put_entry.Needs as need
+use Rattle.report.specs.Columns.{left, right}
+use Rattle.report.proofs.Growing.{grown}
+use Rattle.report.proofs.listing.put_entry.Needs as need
 
 -- the line, from what the entry says
 written : (k w : ℕ) (n : List ℕ) (s z : ℕ) → List ℕ

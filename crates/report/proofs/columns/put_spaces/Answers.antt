@@ -3,8 +3,8 @@ use mathlib.Core.List.{[], _∷_, _++_}
 use lib.ListN.{replicate}
 use Rattle.std.specs.Of.Vec.{vec-items}
 use Rattle.std.proofs.shelf.Lists.{replicate-more}
-use Rattle.console.proofs.Growing.{grown}
-use Rattle.console.proofs.columns.put_spaces.Needs as need
+use Rattle.report.proofs.Growing.{grown}
+use Rattle.report.proofs.columns.put_spaces.Needs as need
 
 pub loop-filled-again : need.loop-filled-again
 loop-filled-again c =

@@ -4,10 +4,10 @@ use native.Mathlib.Omega.{arith}
 use native.Mathlib.Numerals.{add-one}
 use Rattle.std.specs.Of.Vec.{vec-items}
 use Rattle.bundle.proofs.Opening.{each-lies}
-use Rattle.console.specs.Columns.{line, lines}
-use Rattle.console.proofs.Growing.{grown}
-use Rattle.console.proofs.listing.put_entries.Needs as need
-use Rattle.console.proofs.listing.put_entries.Needs.{in-Some·in-Continue-put-entry, in-rest}
+use Rattle.report.specs.Columns.{line, lines}
+use Rattle.report.proofs.Growing.{grown}
+use Rattle.report.proofs.listing.put_entries.Needs as need
+use Rattle.report.proofs.listing.put_entries.Needs.{in-Some·in-Continue-put-entry, in-rest}
 
 pub loop-k-again : need.loop-k-again
 loop-k-again c =

@@ -3,8 +3,8 @@ use mathlib.Core.List.{List, [], _∷_, _++_}
 use Prim.Native.Nat.{ℕ}
 use lib.ListN.{length}
 use Rattle.bundle.specs.Layout.{count}
-use Rattle.console.specs.Columns.{lines, listing, total, widest}
-use Rattle.console.proofs.listing.listing.Needs as need
+use Rattle.report.specs.Columns.{lines, listing, total, widest}
+use Rattle.report.proofs.listing.listing.Needs as need
 
 -- a page that was empty, with the lines and then the total
 whole : (s : List ℕ) (empty some all : List ℕ) (w n m k : ℕ) → empty ≡ [] → some ≡ empty ++ lines s w n → all ≡ some ++ total k m → w ≡ widest s n → n ≡ count s → k ≡ n → m ≡ length s → all ≡ listing s

@@ -4,9 +4,9 @@ use native.Mathlib.Omega.{arith}
 use native.Mathlib.Numerals.{add-one}
 use lib.ListN.{length}
 use Rattle.bundle.proofs.Opening.{each-lies}
-use Rattle.console.specs.Columns.{widest}
-use Rattle.console.proofs.listing.name_width.Needs as need
-use Rattle.console.proofs.listing.name_width.Needs.{in-Some, in-rest}
+use Rattle.report.specs.Columns.{widest}
+use Rattle.report.proofs.listing.name_width.Needs as need
+use Rattle.report.proofs.listing.name_width.Needs.{in-Some, in-rest}
 
 pub loop-k-again : need.loop-k-again
 loop-k-again c =

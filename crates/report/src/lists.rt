@@ -4,7 +4,7 @@ ghost use Rattle.std.specs.Of.Vec.{vec-items};
 ghost use Rattle.std.specs.Orderings.{When};
 ghost use Rattle.std.specs.Vec.{made};
 ghost use Rattle.bundle.specs.Layout.{Layout};
-ghost use Rattle.console.specs.Columns.{listing as listed};
+ghost use Rattle.report.specs.Columns.{listing as listed};
 use crate::listing::listing;
 use crate::wording::explain;
 use crate::wording::headline;

@@ -1,6 +1,6 @@
 use borrow.Author.Needs.{needs}
 use Rattle.std.proofs.shelf.Lists.{append-assoc}
-use Rattle.console.proofs.columns.put_left.Needs as need
+use Rattle.report.proofs.columns.put_left.Needs as need
 
 pub returns : need.returns
 returns c = search (needs, append-assoc)
