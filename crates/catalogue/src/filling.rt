@@ -4,7 +4,11 @@ ghost use Prim.Native.Nat.{_<_, _+_};
 ghost use denote.Ref.{name};
 ghost use lib.ListN.{length, getD};
 ghost use Rattle.catalogue.specs.Records.{Records, blank-pin, none};
-ghost use Rattle.catalogue.specs.Holding.{Fills, Lent, Long, with-connection, with-part, with-pin};
+ghost use Rattle.std.specs.Orderings.{Decides};
+ghost use Rattle.catalogue.specs.Holding.{Enough, Fills, Lent, Long, with-connection, with-part, with-pin, slices};
+use crate::CONNECTIONS;
+use crate::PARTS;
+use crate::PINS;
 use crate::fill_blank;
 use crate::records::ConnectionRecord;
 use crate::records::PartRecord;
@@ -32,6 +36,13 @@ impl<'c> Catalogue<'c> {
             connections,
             used: Counts::NONE,
         }
+    }
+
+    /// Whether there is room for as many records as the texts of a bundle may have.
+    pub fn is_enough(&self) -> bool
+        ensures { λ r. ⌜ Decides r (Enough (slices (now (self .entry)))) ⌝ }
+    {
+        self.pins.len() >= PINS && self.parts.len() >= PARTS && self.connections.len() >= CONNECTIONS
     }
 
     /// How many records are in it.

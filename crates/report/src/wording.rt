@@ -1,6 +1,7 @@
 //! What the program says of a fault. The words are for people, and no contract fixes them.
 use bundle::Breach;
 use fault::Cause;
+use fault::Fault;
 use fault::Layer;
 use std::alloc::AllocError;
 use std::alloc::Global;
@@ -56,6 +57,26 @@ pub(crate) fn headline(heap: Global, cause: Cause) -> Result<String, AllocError>
     let layer = layer_name(cause.layer());
     let words = words(cause);
     format!(heap, "fault {number} ({layer}): {words}")
+}
+
+/// The line of a fault that stands in a text.
+pub(crate) fn placed_headline(
+    heap: Global,
+    fault: Fault,
+    name: &[u8],
+    line: usize,
+    column: usize,
+) -> Result<Vec<u8>, AllocError> {
+    let number = fault.cause.number();
+    let layer = layer_name(fault.cause.layer());
+    let byte = fault.place.byte;
+    let words = words(fault.cause);
+    let mut page = Vec::new(heap);
+    page.extend_from_slice(format!(heap, "fault {number} ({layer}) in ")?.as_bytes())?;
+    page.extend_from_slice(name)?;
+    let place = format!(heap, " at byte {byte}, line {line}, column {column}: {words}\n")?;
+    page.extend_from_slice(place.as_bytes())?;
+    Ok(page)
 }
 
 /// Which rule of the layout is broken.
