@@ -3,6 +3,7 @@ mod columns;
 mod faults;
 mod listing;
 mod lists;
+mod outline;
 mod place;
 mod wording;
 
