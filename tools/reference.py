@@ -8,6 +8,7 @@ It makes the data and the expected output that the gate holds the program to:
     tools/reference.py outline BUNDLE
     tools/reference.py cases              # random and chosen bundles, a line of hex each
     tools/reference.py verdicts < CASES   # what reading says of each
+    tools/reference.py large OUT          # a bundle of 65,535 bytes, for bench/
 """
 import os
 import random
@@ -344,6 +345,19 @@ def cases():
     line(wires("A", 4096), wires("B", 1))
 
 
+def large():
+    """Chips of ordinary shape in 65,535 bytes: as many parts as fit the catalogue, and comments."""
+    texts, parts = {}, 0
+    for k in range(16):
+        name = chr(65 + k)
+        lines = [f"    Nand(a=in{i % 8}, b=n{i}, out=n{i + 1});" for i in range(63)]
+        pins = ", ".join(f"in{i}" for i in range(8))
+        texts[name] = f"// chip {name}\nCHIP {name} {{\n    IN {pins};\n    OUT out;\n    PARTS:\n" + "\n".join(lines) + "\n}\n"
+    size = 2 + 36 * len(texts) + sum(map(len, texts.values()))
+    texts["P"] += "/" * 2 + "-" * (65535 - size - 3) + "\n"
+    return pack_texts({name: text.encode() for name, text in texts.items()})
+
+
 def main(words):
     if words[:1] == ["pack"] and len(words) > 2:
         with open(words[1], "wb") as out:
@@ -352,6 +366,9 @@ def main(words):
         listing(open(words[1], "rb").read())
     elif words[:1] == ["outline"] and len(words) == 2:
         outline(open(words[1], "rb").read())
+    elif words[:1] == ["large"] and len(words) == 2:
+        with open(words[1], "wb") as out:
+            out.write(large())
     elif words == ["cases"]:
         cases()
     elif words == ["verdicts"]:
