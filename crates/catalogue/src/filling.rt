@@ -42,7 +42,9 @@ impl<'c> Catalogue<'c> {
     pub fn is_enough(&self) -> bool
         ensures { λ r. ⌜ Decides r (Enough (slices (now (self .entry)))) ⌝ }
     {
-        self.pins.len() >= PINS && self.parts.len() >= PARTS && self.connections.len() >= CONNECTIONS
+        self.pins.len() >= PINS
+            && self.parts.len() >= PARTS
+            && self.connections.len() >= CONNECTIONS
     }
 
     /// How many records are in it.

@@ -2,4 +2,6 @@
 #[cfg(test)]
 mod bundles;
 #[cfg(test)]
+mod faults;
+#[cfg(test)]
 mod packs;

@@ -9,6 +9,7 @@ use packer::Source;
 use packer::pack;
 use report::Report;
 use report::list;
+use report::outline;
 use std::alloc::AllocError;
 use std::alloc::Global;
 use std::alloc::Refused;
@@ -187,6 +188,13 @@ fn dispatch(rt: &LibcRuntime, words: &[String]) -> Result<(), Stop> {
                 answer(rt, list(rt.alloc(), bytes.as_slice())?)
             }
             _ => misused(rt, "list", "BUNDLE"),
+        },
+        "outline" => match rest {
+            [bundle] => {
+                let bytes = read_file(rt, bundle.as_str())?;
+                answer(rt, outline(rt.alloc(), bytes.as_slice())?)
+            }
+            _ => misused(rt, "outline", "BUNDLE"),
         },
         other => {
             eprintln!(

@@ -14,6 +14,10 @@ tethersecond list BUNDLE
     shows what is in a bundle: number, name, start and length of each text
     tethersecond list adder.bundle
 
+tethersecond outline BUNDLE
+    shows the pins and parts of each chip, or the first fault with its place
+    tethersecond outline adder.bundle
+
 tethersecond --help
     shows this page
 ";

@@ -26,7 +26,10 @@ newline-step s i line start l t h e p q =
 
 pub other-step : (s : List ℕ) (i line start l t : ℕ) → Walked s i line start → (byte s i ≡ 10 → ⊥) → l ≡ line → t ≡ start → Walked s (i + 1) l t
 other-step s i line start l t h e p q =
-    let none = more s i 0 (ap (λ b. cond b 1 0) (ne-eqb (byte s i) 10 e)) in
-    (omega (arith, none, h .0), omega (arith, h .1), omega (arith, h .2),
+    let none = more s i 0 (ap (λ b. cond b 1 0) (ne-eqb (byte s i) 10 e)) in (
+      omega (arith, none, h .0),
+      omega (arith, h .1),
+      omega (arith, h .2),
       ⊎-elim (λ z. inl (q ∙ z)) (λ z. inr (z .0, z .1 ∙ sym q, z .2)) (h .3),
-      λ k a b. ⊎-elim (λ m. h .4 k (omega arith) m) (λ m. let same : i ≡ k = omega arith in λ g. e (ap (byte s) same ∙ g)) (cases-lt k i))
+      λ k a b. ⊎-elim (λ m. h .4 k (omega arith) m) (λ m. let same : i ≡ k = omega arith in λ g. e (ap (byte s) same ∙ g)) (cases-lt k i),
+    )

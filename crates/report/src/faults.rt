@@ -24,7 +24,12 @@ fn put_caret(page: &mut Vec<u8>, before: &[u8]) -> Result<(), AllocError> {
 }
 
 /// Appends a fault that stands in the text of an entry: what and where, the line, and a caret.
-fn put_placed(page: &mut Vec<u8>, heap: Global, fault: Fault, entry: &Entry<'_>) -> Result<(), AllocError> {
+fn put_placed(
+    page: &mut Vec<u8>,
+    heap: Global,
+    fault: Fault,
+    entry: &Entry<'_>,
+) -> Result<(), AllocError> {
     let text = entry.text;
     let Spot {
         line,

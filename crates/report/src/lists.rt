@@ -22,7 +22,11 @@ pub struct Report {
 }
 
 /// That the bytes are no bundle, and which rule they break.
-fn broken_layout(heap: Global, fault: Fault, bytes: &[u8]) -> Result<Vec<u8>, AllocError> {
+pub(crate) fn broken_layout(
+    heap: Global,
+    fault: Fault,
+    bytes: &[u8],
+) -> Result<Vec<u8>, AllocError> {
     let mut page = Vec::new(heap);
     page.extend_from_slice(headline(heap, fault.cause)?.as_bytes())?;
     page.push(b'\n')?;

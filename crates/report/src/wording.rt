@@ -74,7 +74,10 @@ pub(crate) fn placed_headline(
     let mut page = Vec::new(heap);
     page.extend_from_slice(format!(heap, "fault {number} ({layer}) in ")?.as_bytes())?;
     page.extend_from_slice(name)?;
-    let place = format!(heap, " at byte {byte}, line {line}, column {column}: {words}\n")?;
+    let place = format!(
+        heap,
+        " at byte {byte}, line {line}, column {column}: {words}\n"
+    )?;
     page.extend_from_slice(place.as_bytes())?;
     Ok(page)
 }

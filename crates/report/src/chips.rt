@@ -40,7 +40,12 @@ fn put_bits(page: &mut Vec<u8>, heap: Global, bits: Subscript) -> Result<(), All
 }
 
 /// Appends a pin, with its width if that is not 1.
-fn put_pin(page: &mut Vec<u8>, heap: Global, text: &[u8], pin: &PinRecord) -> Result<(), AllocError> {
+fn put_pin(
+    page: &mut Vec<u8>,
+    heap: Global,
+    text: &[u8],
+    pin: &PinRecord,
+) -> Result<(), AllocError> {
     page.extend_from_slice(name_in(text, pin.name))?;
     let width = pin.width;
     if width != 1 {
@@ -50,7 +55,11 @@ fn put_pin(page: &mut Vec<u8>, heap: Global, text: &[u8], pin: &PinRecord) -> Re
 }
 
 fn is_on(pin: &PinRecord, entry: usize, side: Side) -> bool {
-    pin.entry == entry && matches!((pin.side, side), (Side::In, Side::In) | (Side::Out, Side::Out))
+    pin.entry == entry
+        && matches!(
+            (pin.side, side),
+            (Side::In, Side::In) | (Side::Out, Side::Out)
+        )
 }
 
 /// Appends the line of a side of the chip, unless it has no pins.
@@ -137,7 +146,11 @@ fn put_chip(
 }
 
 /// The outline of every chip of the bundle, and how many records there are.
-pub(crate) fn outline_text(heap: Global, bundle: &Bundle<'_>, records: &Records<'_>) -> Result<Vec<u8>, AllocError> {
+pub(crate) fn outline_text(
+    heap: Global,
+    bundle: &Bundle<'_>,
+    records: &Records<'_>,
+) -> Result<Vec<u8>, AllocError> {
     let mut page = Vec::new(heap);
     for k in 0..bundle.count() {
         if let Some(entry) = bundle.entry(k) {
@@ -148,7 +161,10 @@ pub(crate) fn outline_text(heap: Global, bundle: &Bundle<'_>, records: &Records<
     let pins = records.pins.len();
     let parts = records.parts.len();
     let connections = records.connections.len();
-    let total = format!(heap, "{chips} chips, {pins} pins, {parts} parts, {connections} connections\n")?;
+    let total = format!(
+        heap,
+        "{chips} chips, {pins} pins, {parts} parts, {connections} connections\n"
+    )?;
     page.extend_from_slice(total.as_bytes())?;
     Ok(page)
 }
