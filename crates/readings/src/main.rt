@@ -2,6 +2,7 @@
 //!
 //! A line of standard input has the texts of a bundle, each as `x` and its bytes in hex; they go by the
 //! names A, B, C and so on. `tools/reference.py` makes the lines and the answers that are expected.
+ghost use Prim.Native.Nat.{_<_};
 use catalogue::CONNECTIONS;
 use catalogue::ConnectionRecord;
 use catalogue::Counts;
@@ -92,8 +93,9 @@ fn texts_of(heap: Global, line: &str) -> Result<Vec<Vec<u8>>, Stop> {
 fn sources_of<'a>(heap: Global, texts: &'a [Vec<u8>]) -> Result<Vec<Source<'a>>, AllocError> {
     let mut sources = Vec::new(heap);
     for (i, text) in texts.iter().enumerate() {
-        if i < 26 {
-            let name = &NAMES[i..i + 1];
+        let names: &[u8] = NAMES;
+        if i < names.len() {
+            let name = &names[i..i + 1];
             let text = text.as_slice();
             sources.push(Source { name, text })?;
         }
