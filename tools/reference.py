@@ -346,12 +346,12 @@ def cases():
 
 
 def large():
-    """Chips of ordinary shape in 65,535 bytes: as many parts as fit the catalogue, and comments."""
-    texts, parts = {}, 0
+    """Chips of ordinary shape, nearly as many parts as a catalogue holds, filled up to 65,535 bytes by a comment."""
+    texts = {}
     for k in range(16):
         name = chr(65 + k)
-        lines = [f"    Nand(a=in{i % 8}, b=n{i}, out=n{i + 1});" for i in range(63)]
-        pins = ", ".join(f"in{i}" for i in range(8))
+        lines = [f"    Nand(a=input{i % 8}, b=carriedLevel{i:02}, out=carriedLevel{i + 1:02});" for i in range(63)]
+        pins = ", ".join(f"input{i}" for i in range(8))
         texts[name] = f"// chip {name}\nCHIP {name} {{\n    IN {pins};\n    OUT out;\n    PARTS:\n" + "\n".join(lines) + "\n}\n"
     size = 2 + 36 * len(texts) + sum(map(len, texts.values()))
     texts["P"] += "/" * 2 + "-" * (65535 - size - 3) + "\n"
