@@ -1,0 +1,3 @@
+pub mod AnyNumber
+mod Joining
+mod LowBits

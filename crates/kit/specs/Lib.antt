@@ -1,0 +1,12 @@
+pub mod Bits
+pub mod Masks
+pub mod Models
+pub mod Headers
+pub mod HeaderLaws
+pub mod Atoms
+pub mod AtomLaws
+pub mod Roms
+pub mod RomLaws
+pub mod Pairs
+pub mod PairLaws
+pub mod Joins
