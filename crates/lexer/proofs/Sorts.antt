@@ -69,8 +69,8 @@ mark-stays b h = grind (arith, tells)
 pub digit-alnum : (c : ℕ) → asciiDigit c ≡ true → asciiAlnum c ≡ true
 digit-alnum c h = grind (arith, tells)
 
-pub digit-letter : (c : ℕ) → asciiDigit c ≡ true → asciiLetter c ≡ true → ⊥
-digit-letter c h k = grind (arith, tells)
+pub digit-letter : (n : ℕ) → asciiDigit n ≡ true → asciiLetter n ≡ true → ⊥
+digit-letter n h k = grind (arith, tells)
 
 -- whether each byte is a letter or a digit
 abbrev every : List ℕ → Bool
