@@ -14,10 +14,10 @@ use crate::breach::Breach;
 use std::cmp::Ordering;
 
 /// The most bytes that a bundle may have.
-const MAX_BYTES: usize = 65_535;
+pub const MAX_BYTES: usize = 65_535;
 
 /// The most entries that a bundle may have.
-const MAX_ENTRIES: usize = 128;
+pub const MAX_ENTRIES: usize = 128;
 
 /// The bytes of a row in the table of contents.
 pub const ROW: usize = 36;

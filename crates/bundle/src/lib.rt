@@ -7,5 +7,8 @@ pub use breach::Breach;
 pub use breach::BreachDebug;
 pub use breach::BreachPartialEq;
 pub use breach::FaultFromBreach;
+pub use check::MAX_BYTES;
+pub use check::MAX_ENTRIES;
+pub use check::ROW;
 pub use opened::Bundle;
 pub use opened::Entry;

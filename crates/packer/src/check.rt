@@ -8,19 +8,16 @@ ghost use Rattle.packer.specs.Rules.{Keeps, New, Sound, Taken, size-upto};
 ghost use Rattle.packer.specs.Breaks.{Broken, Upto};
 use crate::faults::PackFault;
 use crate::source::Source;
-
-/// The most bytes that a bundle may have.
-const MAX_BYTES: usize = 65_535;
-
-/// The most sources that a bundle may have.
-const MAX_ENTRIES: usize = 128;
+use bundle::MAX_BYTES;
+use bundle::MAX_ENTRIES;
+use bundle::ROW;
 
 /// How many bytes stand before the texts: the number of entries, and 36 bytes for each of them.
 pub fn head_len(count: usize) -> usize
     requires { ⌜ count ≤ 128 ⌝ }
     ensures { λ r. ⌜ r ≡ 2 + 36 * count ⌝ }
 {
-    2 + 36 * count
+    2 + ROW * count
 }
 
 /// Whether no source before the source `i` has its name.
