@@ -46,7 +46,7 @@ def lemma_files(root):
 
 def proof_files(root):
     top = set(lemma_files(root))
-    return [p for p in sorted(root.glob("crates/*/proofs/**/*.antt")) if p not in top and "/out/" not in str(p)]
+    return [p for p in sorted(root.glob("crates/*/proofs/**/*.antt")) if p not in top]
 
 
 def words_of(text, mark):

@@ -1,5 +1,5 @@
 -- Every entry of an opened bundle lies within it.
-use Rattle.std.proofs.Common.{ℕ, ◌<◌, subst, arith}
+use Rattle.std.proofs.Common.{ℕ, ◌<◌, arith}
 use Rattle.bundle.specs.declared.opened.Bundle.{Bundle}
 use Rattle.bundle.specs.Entries.{Opened, Lies}
 

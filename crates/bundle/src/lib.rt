@@ -1,4 +1,6 @@
 //! The bundle: many chip texts in one run of bytes, under a table of contents.
+#![tactic(auto)]
+
 mod breach;
 mod check;
 mod opened;

@@ -1,5 +1,5 @@
 -- The records of a chip, and blank ones. docs/CATALOGUE.md has the same in words.
-use Rattle.std.specs.Prelude.{ℕ, ◌+◌, Bool, false, List, [], ◌∷◌, ◌++◌, length, Some, None, Option}
+use Rattle.std.specs.Prelude.{ℕ, ◌+◌, false, List, [], ◌∷◌, ◌++◌, length, Some, None, Option}
 use Rattle.std.specs.Option.{unwrap_or}
 use Rattle.catalogue.specs.declared.records.Span.{Span}
 use Rattle.catalogue.specs.declared.records.Side.{Side}

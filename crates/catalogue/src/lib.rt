@@ -1,5 +1,7 @@
 //! The catalogue: what the texts of a bundle say, as records in the order of the texts, in memory
 //! that the caller lends.
+#![tactic(auto)]
+
 ghost use Rattle.std.specs.Prelude.{◌≡◌, length, replicate};
 
 mod filling;

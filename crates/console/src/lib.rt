@@ -1,4 +1,5 @@
 //! The commands of the program: what they read, write and print.
+#![tactic(auto)]
 mod commands;
 mod rom;
 mod wording;

@@ -1,5 +1,5 @@
 -- Each number is that of one cause.
-use Rattle.std.proofs.Common.{◌≡◌, ℕ, List, [], ◌∷◌, get_or, sym, refl, ap, ◌∙◌}
+use Rattle.std.proofs.Common.{◌≡◌, ℕ, [], ◌∷◌, get_or, sym, refl, ap, ◌∙◌}
 use Rattle.fault.specs.declared.Cause.{Cause}
 use Rattle.fault.specs.declared.Cause.TheVariants.{SmallCatalogue, BrokenLayout, TooManyRecords, NoToken, BrokenGrammar, OtherChipName, BadPin, UnknownPart, NoSuchPartPin, BadEnd, WidthsDiffer, FedTwice, LeftOpen, ChipsInRing, NoSuchTop, TooLarge, Loop, BlankBoard, WrongPhase, NoSuchPin, ValueTooWide, StaleBoard, NoTrialOpen, TrialOpen, TallyFull}
 use Rattle.fault.specs.Faults.{number_of}

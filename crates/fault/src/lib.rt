@@ -2,9 +2,12 @@
 //!
 //! Each layer has a fault type of its own where it knows more, and an `impl From` that makes a
 //! `Fault` of it with the place kept whole, so that `?` hands it up to the caller.
-ghost use Rattle.std.specs.Prelude.{◌≡◌, Decides};
+#![tactic(auto)]
+
+ghost use Rattle.std.specs.Prelude.{◌≡◌, ◌==◌, Decides};
 ghost use Rattle.fault.specs.Faults.{layer_of, nowhere, number_of};
 ghost use Rattle.std.specs.Cmp.Rules.{comparing};
+ghost use Rattle.std.specs.Ordering.{on};
 ghost use Rattle.std.proofs.Common.{rules};
 
 /// The part of the bench that found a fault.
@@ -48,11 +51,14 @@ pub enum Cause {
 }
 
 impl PartialEq for Cause {
-    ghost equals = { λ a b r. Decides r (a ≡ b) };
+    ghost eq = { on number_of ◌==◌ };
 
     ghost laws = { Prim.search (comparing, rules) };
 
-    fn eq(&self, other: &Cause) -> bool {
+    fn eq(&self, other: &Cause) -> bool
+        ensures value { result ≡ on number_of ◌==◌ self.now other.now }
+        ensures same { Decides result (self.now ≡ other.now) }
+    {
         *self as u8 == *other as u8
     }
 }

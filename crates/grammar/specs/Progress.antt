@@ -1,5 +1,5 @@
 -- How far a chip text has been read: a chip of which the front is known, and what the next lexeme makes of it.
-use Rattle.std.specs.Prelude.{ℕ, Bool, true, false, cond, List, [], ◌∷◌, ◌++◌, Some, None, codes, Option}
+use Rattle.std.specs.Prelude.{ℕ, true, false, cond, List, [], ◌∷◌, ◌++◌, Some, None, codes, Option}
 use Rattle.std.specs.Str.{bytes_eq}
 use Rattle.lexer.specs.Lexemes.{Lexeme, name, number, fixed}
 use Rattle.grammar.specs.Tree as tree

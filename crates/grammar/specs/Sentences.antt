@@ -1,9 +1,9 @@
 -- Which lexemes are a chip, which can still become one, and that reading step by step finds just these.
-use Rattle.std.specs.Prelude.{◌≡◌, List, [], ◌∷◌, ◌++◌}
+use Rattle.std.specs.Prelude.{◌≡◌, List, ◌++◌}
 use Rattle.lexer.specs.Lexemes.{Lexeme}
 use Rattle.grammar.specs.Tree.{Chip}
 use Rattle.grammar.specs.Spelling.{chip_words}
-use Rattle.grammar.specs.Progress.{State, start, done, Next, go, stop, follow, run, Live}
+use Rattle.grammar.specs.Progress.{State, start, done, go, stop, run, Live}
 
 -- the lexemes are a chip
 abbrev pub Sentence : List Lexeme → Type 0

@@ -1,5 +1,5 @@
 -- The grammar: the lexemes that write a chip.
-use Rattle.std.specs.Prelude.{ℕ, Bool, true, false, List, [], ◌∷◌, ◌++◌, Some, None, codes, Option}
+use Rattle.std.specs.Prelude.{ℕ, true, false, List, [], ◌∷◌, ◌++◌, Some, None, codes, Option}
 use Rattle.std.specs.List.{flat_map}
 use Rattle.lexer.specs.Lexemes.{Lexeme, name, number, fixed}
 use Rattle.grammar.specs.Tree.{Name, Row, Pin, Subscript, all, bit, range, FarEnd, constant, pin, Connection, Part, Header, Chip}

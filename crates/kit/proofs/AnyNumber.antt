@@ -1,10 +1,9 @@
 -- What holds of the answers of a sound kit for any number, one of its kinds or not.
-use Rattle.std.proofs.Common.{◌≡◌, ℕ, ◌+◌, ◌^◌, ◌<◌, ◌≤◌, false, List, Some, None, Option, sym, ◌∙◌, subst, ⊎_elim, arith}
+use Rattle.std.proofs.Common.{◌≡◌, ℕ, ◌^◌, ◌<◌, ◌≤◌, false, List, Some, ⊎_elim, arith}
 use Rattle.std.proofs.lemmas.Nat.{pow_pos}
 use Rattle.std.proofs.lemmas.Bool.{cases_lt}
 use Rattle.kit.specs.declared.shape.Pin.{Pin}
-use Rattle.kit.specs.Bits.{bit, Agree}
-use Rattle.kit.specs.Models.{Model, Unknown, Keeps, Sound, Placed, on}
+use Rattle.kit.specs.Models.{Model, Sound}
 
 module _ (m : Model) (sound : Sound m) where
   pub inputs_most : (k : ℕ) → m.inputs k ≤ 64

@@ -1,11 +1,11 @@
 -- The atoms are a sound kit.
-use Rattle.std.specs.Prelude.{◌≡◌, ℕ, zero, suc, ◌-◌, ◌*◌, ◌^◌, ◌<◌, ◌≤◌, Bool, true, false, cond, List, Some, None, codes, Option, refl}
+use Rattle.std.specs.Prelude.{◌≡◌, ℕ, zero, suc, ◌-◌, ◌*◌, ◌^◌, ◌<◌, ◌≤◌, Bool, true, false, cond, List, Some, None, codes, refl}
 use Rattle.std.proofs.Common.{ap₂, true≢false, arith}
 use Rattle.std.specs.Str.{bytes_eq}
 use Rattle.kit.specs.Bits.{bit, Agree}
-use Rattle.kit.specs.Models.{Model, Unknown, Regular, Keeps, Lawful, Sound}
+use Rattle.kit.specs.Models.{Unknown, Keeps, Sound}
 use Rattle.kit.specs.HeaderLaws.{header_placed, header_apart}
-use Rattle.kit.specs.Atoms.{nand, dff, atom_find, atom_header, atom_next, atom_out, atom_waits, atoms}
+use Rattle.kit.specs.Atoms.{nand, dff, atom_find, atom_next, atom_out, atom_waits, atoms}
 
 found : (name : List ℕ) (k : ℕ) → atom_find name ≡ Some k → k < 2
 found name k = go (bytes_eq name (codes "Nand")) (bytes_eq name (codes "DFF"))

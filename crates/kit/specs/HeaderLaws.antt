@@ -1,12 +1,12 @@
 -- The pins of a header keep the second law.
-use Rattle.std.specs.Prelude.{◌≡◌, ℕ, ◌+◌, ◌<◌, ◌≤◌, Bool, true, false, cond, ◌⊎◌, List, [], ◌∷◌, Some, None, Option, ◌≢◌, refl}
-use Rattle.std.proofs.Common.{ap, sym, subst, ◌∙◌, inl, inr, ⊎_elim, arith}
+use Rattle.std.specs.Prelude.{◌≡◌, ℕ, ◌+◌, ◌≤◌, Bool, true, false, cond, ◌⊎◌, List, [], ◌∷◌, Some, None, Option, ◌≢◌, refl}
+use Rattle.std.proofs.Common.{sym, subst, ◌∙◌, inl, inr, ⊎_elim, arith}
 use Rattle.std.specs.Str.{bytes_eq}
 use Rattle.std.proofs.lemmas.Slice.Eq.{bytes_eq-Decides}
 use Rattle.kit.specs.declared.shape.Side.{Side}
 use Rattle.kit.specs.declared.shape.Side.TheVariants.{In, Out}
 use Rattle.kit.specs.declared.shape.Pin.{Pin}
-use Rattle.kit.specs.Models.{Placed, Apart, Has, on}
+use Rattle.kit.specs.Models.{Placed, Apart, on}
 use Rattle.kit.specs.Headers.{Listed, Header, bits, sought, or_else, pin_of, Widths}
 
 -- where a pin stands that is found among those from a first bit on

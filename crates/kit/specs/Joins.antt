@@ -1,5 +1,5 @@
 -- What a pair of kits is, said of its answers.
-use Rattle.std.specs.Prelude.{◌≡◌, ℕ, ◌+◌, ◌<◌, ◌≤◌, min, List, Some, None, Option}
+use Rattle.std.specs.Prelude.{◌≡◌, ℕ, ◌+◌, ◌<◌, ◌≤◌, min, List, Some, None}
 use Rattle.kit.specs.Models.{Model}
 
 -- the kit m answers of its kind k as the kit n does of its kind j

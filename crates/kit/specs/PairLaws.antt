@@ -1,10 +1,10 @@
 -- Two sound kits as one are a sound kit.
-use Rattle.std.specs.Prelude.{◌≡◌, ℕ, zero, suc, ◌+◌, ◌-◌, ◌^◌, ◌<◌, ◌≤◌, min, Bool, true, false, cond, List, Some, None, Option, nat_lt, refl}
+use Rattle.std.specs.Prelude.{◌≡◌, ℕ, ◌+◌, ◌-◌, ◌<◌, ◌≤◌, Bool, true, false, cond, List, Some, None, Option, nat_lt, refl}
 use Rattle.std.proofs.Common.{arith}
 use Rattle.std.proofs.lemmas.Bool.{ltb-true, ltb-false}
 use Rattle.kit.specs.declared.pair.Seat.{Seat}
 use Rattle.kit.specs.declared.pair.Seat.TheVariants.{First, Second, Neither}
-use Rattle.kit.specs.Models.{Model, Unknown, Regular, Keeps, Lawful, Sound}
+use Rattle.kit.specs.Models.{Model, Unknown, Regular, Keeps, Sound}
 use Rattle.kit.specs.Pairs.{both, seat, counted_on, found_in, no_kit, kit_at, kind_at, pair}
 
 no_kit_sound : Sound no_kit

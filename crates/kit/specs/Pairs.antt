@@ -1,5 +1,5 @@
 -- Two kits as one: the kinds of the first, and then those of the second.
-use Rattle.std.specs.Prelude.{ℕ, ◌+◌, ◌-◌, ◌<◌, min, Bool, false, cond, List, Some, None, Option, nat_lt}
+use Rattle.std.specs.Prelude.{ℕ, ◌+◌, ◌-◌, min, false, cond, Some, None, Option, nat_lt}
 use Rattle.kit.specs.declared.pair.Seat.{Seat}
 use Rattle.kit.specs.declared.pair.Seat.TheVariants.{First, Second, Neither}
 use Rattle.kit.specs.Models.{Model}

@@ -1,11 +1,11 @@
 -- A ROM over any words is a sound kit.
-use Rattle.std.specs.Prelude.{◌≡◌, ℕ, zero, suc, ◌/◌, ◌%◌, ◌^◌, ◌<◌, ◌≤◌, Bool, true, false, cond, List, Some, None, codes, Option, nat_lt, slice_index, refl}
+use Rattle.std.specs.Prelude.{◌≡◌, ℕ, zero, suc, ◌/◌, ◌%◌, ◌^◌, ◌<◌, ◌≤◌, Bool, true, false, cond, List, Some, None, codes, nat_lt, slice_index, refl}
 use Rattle.std.proofs.Common.{ap, arith}
 use Rattle.std.specs.Str.{bytes_eq}
 use Rattle.std.proofs.lemmas.Bool.{cond_both, cond-false, cond-true, le-ltb, lt-ltb}
 use Rattle.kit.specs.Bits.{bit, Agree}
 use Rattle.kit.specs.Masks.{field_same}
-use Rattle.kit.specs.Models.{Model, Unknown, Regular, Keeps, Lawful, Sound}
+use Rattle.kit.specs.Models.{Unknown, Keeps, Sound}
 use Rattle.kit.specs.HeaderLaws.{header_placed, header_apart}
 use Rattle.kit.specs.Roms.{rom_find, rom_header, rom_out, rom_waits, rom}
 

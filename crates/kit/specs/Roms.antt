@@ -1,8 +1,8 @@
 -- A kit over words: one kind, ROM, which answers the word at an address.
-use Rattle.std.specs.Prelude.{ℕ, zero, suc, ◌%◌, ◌^◌, ◌<◌, Bool, false, cond, List, [], ◌∷◌, Some, None, codes, Option, nat_lt, slice_index}
+use Rattle.std.specs.Prelude.{ℕ, zero, suc, ◌%◌, ◌^◌, false, cond, List, [], ◌∷◌, Some, None, codes, Option, nat_lt, slice_index}
 use Rattle.std.specs.Str.{bytes_eq}
 use Rattle.kit.specs.Models.{Model}
-use Rattle.kit.specs.Headers.{Listed, Header, bits, pin_of}
+use Rattle.kit.specs.Headers.{Header, bits, pin_of}
 use Rattle.kit.specs.Atoms.{no_header}
 
 abbrev pub rom_find : List ℕ → Option ℕ

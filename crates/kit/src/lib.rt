@@ -1,4 +1,5 @@
 //! Kits of built-in parts, behind one trait: the atoms, a ROM over lent words, and two kits as one.
+#![tactic(auto)]
 
 mod atoms;
 mod kits;

@@ -2,6 +2,8 @@
 //!
 //! Spaces, tabs, carriage returns, newlines and comments separate tokens. Where neither a token nor
 //! a separator stands, the lexer refuses, and the refusal becomes a `Fault` by `?`.
+#![tactic(auto)]
+
 ghost use Rattle.std.specs.Prelude.{◌≡◌, ◌<◌, IfOk, OnSome};
 ghost use Rattle.lexer.specs.Answers.{Answers};
 ghost use Rattle.lexer.specs.Single.{OneAnswer};

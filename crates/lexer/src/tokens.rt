@@ -1,7 +1,8 @@
 //! The tokens of the language, and their kinds.
-ghost use Rattle.std.specs.Prelude.{◌≡◌, Decides};
-ghost use Rattle.lexer.specs.Kinds.{kind_of};
+ghost use Rattle.std.specs.Prelude.{◌≡◌, ◌==◌, Decides};
+ghost use Rattle.lexer.specs.Kinds.{kind_of, place_of};
 ghost use Rattle.std.specs.Cmp.Rules.{comparing};
+ghost use Rattle.std.specs.Ordering.{on};
 ghost use Rattle.std.proofs.Common.{rules};
 
 /// A token. A name is its part of the text, a number its value.
@@ -57,11 +58,14 @@ pub enum Kind {
 }
 
 impl PartialEq for Kind {
-    ghost equals = { λ a b r. Decides r (a ≡ b) };
+    ghost eq = { on place_of ◌==◌ };
 
     ghost laws = { Prim.search (comparing, rules) };
 
-    fn eq(&self, other: &Kind) -> bool {
+    fn eq(&self, other: &Kind) -> bool
+        ensures value { result ≡ on place_of ◌==◌ self.now other.now }
+        ensures same { Decides result (self.now ≡ other.now) }
+    {
         *self as u8 == *other as u8
     }
 }

@@ -1,6 +1,5 @@
 -- Sources that keep the rules, put in the order of their names.
 use Rattle.std.proofs.Common.{◌≡◌, ℕ, zero, suc, ◌+◌, ◌*◌, ◌<◌, ◌≤◌, false, ◌⊎◌, List, [], ◌∷◌, length, get_or, Ordering, Less, Equal, Greater, sym, refl, ap, ◌∙◌, subst, inl, inr, ⊎_elim, arith}
-use Rattle.std.specs.Cmp.{IsTotalOrder}
 use Rattle.std.specs.Ordering.{is_lt, ordering_reverse}
 use Rattle.std.specs.List.Sorted.{IsPermutation, IsSortedWithin}
 use Rattle.std.specs.List.{swap, AllByRecursion as All}
@@ -16,29 +15,6 @@ use Rattle.packer.specs.declared.source.Source.{Source}
 use Rattle.packer.specs.Rules.{name_of, text_of, bytes, Sound}
 use Rattle.packer.specs.Written.{Writable}
 use Rattle.packer.proofs.Places.{blank, name_read, text_read}
-
--- ---- the order of names is total
-
--- what two orders of the same two names may be
-pub flips : (xs ys : List ℕ) (a b : Ordering) → order xs ys ≡ a → order ys xs ≡ b → a ≡ ordering_reverse b
-flips xs ys Less Less p q = absurd (before_irrefl xs (before_trans xs ys xs p q))
-flips xs ys Less Equal p q = absurd (before_irrefl xs (subst (Before xs) (same_order ys xs q) p))
-flips xs ys Less Greater p q = refl
-flips xs ys Equal Less p q = absurd (before_irrefl xs (subst (λ n. Before n xs) (sym (same_order xs ys p)) q))
-flips xs ys Equal Equal p q = refl
-flips xs ys Equal Greater p q = absurd (before_irrefl xs (subst (Before xs) (sym (same_order xs ys p)) (order_flip ys xs q)))
-flips xs ys Greater Less p q = refl
-flips xs ys Greater Equal p q = absurd (before_irrefl xs (subst (λ n. Before n xs) (same_order ys xs q) (order_flip xs ys p)))
-flips xs ys Greater Greater p q = absurd (before_irrefl xs (before_trans xs ys xs (order_flip ys xs q) (order_flip xs ys p)))
-
-abbrev pub by_name : IsTotalOrder (λ (a b : Source) (r : Ordering). r ≡ order a.name.now b.name.now)
-by_name = record {
-  cmp = λ a b. order a.name.now b.name.now;
-  says = λ a b r h. h;
-  flip = λ a b. flips a.name.now b.name.now _ _ refl refl;
-  trans = λ a b c. before_trans a.name.now b.name.now c.name.now;
-  alike = λ a b c e. ap (λ n. order n c.name.now) (same_order a.name.now b.name.now e);
-}
 
 -- ---- no two sources have one name, however they are ordered
 

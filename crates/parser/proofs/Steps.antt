@@ -12,7 +12,6 @@ use Rattle.lexer.specs.Lexemes.{Lexeme, name, number, fixed, lexeme, more}
 use Rattle.lexer.specs.Steps.{Gives}
 use Rattle.lexer.specs.Tokens.{Stands}
 use Rattle.lexer.proofs.Bytes.{long}
-use Rattle.grammar.specs.Tree.{Name}
 use Rattle.grammar.specs.Progress as grammar
 use Rattle.grammar.specs.Progress.{start, Next, go, stop, follow, run, with_connection}
 use Rattle.grammar.proofs.Runs.{run_push}

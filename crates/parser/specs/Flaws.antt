@@ -2,7 +2,7 @@
 use Rattle.std.specs.Prelude.{◌≡◌, ℕ, ◌+◌, ◌<◌, ◌≤◌, ◌⊎◌, List, [], ◌∷◌, ◌++◌, length, Some, None, codes, ◌≢◌, slice_index_or}
 use Rattle.fault.specs.declared.Cause.{Cause}
 use Rattle.fault.specs.declared.Cause.TheVariants as cause
-use Rattle.lexer.specs.Lexemes.{Lexeme, name, number, fixed}
+use Rattle.lexer.specs.Lexemes.{Lexeme, name, fixed}
 use Rattle.grammar.specs.Tree.{Name, Row, items, Pin, Part, Header}
 use Rattle.grammar.specs.Progress.{Side, ins, outs, State, chip, pin, pin_named, pin_wide, first_line, next_line, connection, Line}
 use Rattle.catalogue.specs.Records.{Records, width_of}

@@ -1,5 +1,7 @@
 //! Reads one chip text, token by token, into records of the catalogue, or tells the first fault of
 //! the text.
+#![tactic(auto)]
+
 ghost use Rattle.std.specs.Result.{MatchResult};
 ghost use Rattle.catalogue.specs.Records.{Records};
 ghost use Rattle.catalogue.specs.Holding.{Enough, Fills, Lent, Long, slices};

@@ -1,5 +1,5 @@
 -- What a reader keeps of a chip that is read in part.
-use Rattle.std.specs.Prelude.{◌≡◌, ℕ, Bool, false, Some, None, Option}
+use Rattle.std.specs.Prelude.{◌≡◌, Bool, false, Some, None, Option}
 use Rattle.catalogue.specs.declared.records.Span.{Span}
 use Rattle.catalogue.specs.declared.records.Side.{Side}
 use Rattle.catalogue.specs.declared.records.Side.TheVariants.{In, Out}

@@ -1,4 +1,6 @@
 //! Reading: the texts of a bundle become records of the catalogue, or the first fault is told.
+#![tactic(auto)]
+
 ghost use Rattle.std.specs.Prelude.{◌≡◌, ℕ, suc, ◌<◌, length, MatchResult};
 ghost use Rattle.fault.specs.Faults.{nowhere};
 ghost use Rattle.bundle.specs.Layout.{Layout};

@@ -1,4 +1,5 @@
 //! Answers as text for a person.
+#![tactic(auto)]
 mod chips;
 mod columns;
 mod faults;

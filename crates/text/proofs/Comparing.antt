@@ -1,9 +1,11 @@
 -- The laws of the order of names.
-use Rattle.std.proofs.Common.{◌≡◌, ℕ, ◌<◌, Bool, true, false, cond, eqb, ltb, ◌⊎◌, List, [], ◌∷◌, Ordering, Less, Equal, Greater, sym, refl, ap, ◌∙◌, subst, inl, inr, ⊎_elim, arith}
-use Rattle.std.specs.Cmp.Lexicographic.{Lex}
-use Rattle.std.specs.Ordering.{MatchOrdering}
+use Rattle.std.proofs.Common.{◌≡◌, ℕ, ◌<◌, ◌⊎◌, List, [], ◌∷◌, Ordering, Less, Equal, Greater, sym, refl, ap, ◌∙◌, subst, inl, inr, ⊎_elim, arith}
+use Rattle.std.specs.Cmp.{IsTotalOrder}
+use Rattle.std.specs.Cmp.Lexicographic.{slice_cmp, pointwise, nat_list_cmp_total, texts_ties}
+use Rattle.std.specs.Bool.{nat_eq}
+use Rattle.std.specs.Ordering.{nat_cmp, eq_by_cmp, ordering_then}
 use Rattle.std.proofs.lemmas.Bool.Decides.{nat_tests}
-use Rattle.std.proofs.lemmas.Bool.{cases_order, eq-eqb}
+use Rattle.std.proofs.lemmas.Bool.{cases_order}
 use Rattle.text.specs.Orders.{order, Before}
 
 -- how two heads compare decides, unless they are the same
@@ -19,15 +21,25 @@ pub order_next : (x y : ℕ) (xs ys : List ℕ) → x ≡ y → order (x ∷ xs)
 unfolding order
 order_next x y xs ys h = grind (arith, nat_tests)
 
--- what `cmp` answers of two slices is the order
-pub lex_order : (xs ys : List ℕ) (o : Ordering) → Lex (λ a b k. MatchOrdering k (a < b) (a ≡ b) (b < a)) xs ys o → o ≡ order xs ys
+-- how two heads compare, and then the rest if they are the same, is the order
+heads_order : (x y : ℕ) (xs ys : List ℕ) → ordering_then (nat_cmp x y) (order xs ys) ≡ order (x ∷ xs) (y ∷ ys)
 unfolding order
-lex_order [] [] o h = h
-lex_order [] (y ∷ ys) o h = h
-lex_order (x ∷ xs) [] o h = h
-lex_order (x ∷ xs) (y ∷ ys) o (Less, h, e) = e ∙ sym (order_less x y xs ys h)
-lex_order (x ∷ xs) (y ∷ ys) o (Equal, h, e) = lex_order xs ys o e ∙ sym (order_next x y xs ys h)
-lex_order (x ∷ xs) (y ∷ ys) o (Greater, h, e) = e ∙ sym (order_greater x y xs ys h)
+heads_order x y xs ys = grind (arith, nat_tests)
+
+-- what `cmp` answers of two slices is the order
+pub cmp_order : (xs ys : List ℕ) → slice_cmp nat_cmp xs ys ≡ order xs ys
+unfolding order
+cmp_order [] [] = refl
+cmp_order [] (y ∷ ys) = refl
+cmp_order (x ∷ xs) [] = refl
+cmp_order (x ∷ xs) (y ∷ ys) = ap (ordering_then (nat_cmp x y)) (cmp_order xs ys) ∙ heads_order x y xs ys
+
+-- it is a total order, which tells apart just what `==` of two slices does
+pub order_total : IsTotalOrder order
+order_total = subst IsTotalOrder (λ i xs ys. cmp_order xs ys i) nat_list_cmp_total
+
+pub order_ties : (xs ys : List ℕ) → pointwise nat_eq xs ys ≡ eq_by_cmp order xs ys
+order_ties = subst (λ (R : List ℕ → List ℕ → Ordering). (xs ys : List ℕ) → pointwise nat_eq xs ys ≡ eq_by_cmp R xs ys) (λ i xs ys. cmp_order xs ys i) texts_ties
 
 pub order_same : (xs : List ℕ) → order xs xs ≡ Equal
 unfolding order

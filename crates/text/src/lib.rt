@@ -2,6 +2,7 @@
 //!
 //! Whatever compares two names, in a bundle's contents, in a text or in a kit, asks `compare` or
 //! `same` here.
+#![tactic(auto)]
 
 mod keyword;
 mod name;

@@ -183,6 +183,6 @@ module _ (end : ℕ) where
       start qs end (suc p) ≡ (get_or qs p blank_part).connections + (get_or qs p blank_part).count
   lines_next p (none h) e l = absurd (omega arith)
   lines_next zero (line {cs = cs} {ds = ds} n r) e l =
-      rw compare.suc_suc (lines_start r (omega (arith, n.counted, length-append cs ds)) ∙ omega (arith, n.first))
+      rw compare.suc-suc (lines_start r (omega (arith, n.counted, length-append cs ds)) ∙ omega (arith, n.first))
   lines_next (suc p) (line {cs = cs} {ds = ds} n r) e l =
-      rw compare.suc_suc (lines_next p r (omega (arith, n.counted, length-append cs ds)) (omega arith))
+      rw compare.suc-suc (lines_next p r (omega (arith, n.counted, length-append cs ds)) (omega arith))

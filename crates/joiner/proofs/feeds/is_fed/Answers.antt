@@ -5,7 +5,7 @@ use Rattle.catalogue.specs.Records.{blank_connection}
 use Rattle.joiner.specs.Feeding.{Covers, Feeds}
 use Rattle.joiner.proofs.Feeding.{unmet, feedless}
 use Rattle.joiner.proofs.feeds.is_fed.Goals as goal
-use Rattle.joiner.proofs.feeds.is_fed.Goals.{in-Some+else-meets, in-default}
+use Rattle.joiner.proofs.feeds.is_fed.Goals.{in-Some+else-meets, in_default}
 
 pub loop-connection-preserved : goal.loop-connection-preserved
 loop-connection-preserved c j b l h k =
@@ -14,7 +14,7 @@ loop-connection-preserved c j b l h k =
     let here : Feeds at_i c.args.bits.sink b → ⊥ =
     λ x. elim c.match-feed-of.branch [
       | in-Some+else-meets w ↦ unmet at_i w.in-Some.feed c.args.bits b w.in-Some.ensures (λ y. both_ways _ w.if-meets.false (w.meets.ensures.1 y)) x k
-      | in-default w ↦ feedless at_i c.args.bits.sink b w.in-default.ensures x
+      | in_default w ↦ feedless at_i c.args.bits.sink b w.in_default.ensures x
     ]
     in
     ⊎_elim (λ m. c.loop-connection.invariant j b m h k)

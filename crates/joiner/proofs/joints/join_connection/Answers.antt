@@ -18,13 +18,13 @@ bounds-parts-connection g c = stages.part_below _ _ _ _ _ _ _ c.requires.stage c
 pub pin-requires : goal.pin-requires
 pin-requires g c = record { «open» = stages.open_at _ _ _ _ _ _ _ c.requires.opened c.requires.stage; below = stages.of_below _ _ _ _ _ c.args.i c.requires.within c.requires.stage }
 
-pub returns-in-default : goal.returns-in-default
-returns-in-default g c = stages.no_pin_at (g.K.Kit.model c.args.scope.now.kit.now) _ _ _ _ c.args.i c.requires.within c.requires.stage c.word-name.result.now c.word-name.ensures c.in-default.ensures.is
+pub returns-in_default : goal.returns-in_default
+returns-in_default g c = stages.no_pin_at (g.K.Kit.model c.args.scope.now.kit.now) _ _ _ _ c.args.i c.requires.within c.requires.stage c.word-name.result.now c.word-name.ensures c.in_default.ensures.is
 
-pub returns-in-default-slice : goal.returns-in-default-slice
-returns-in-default-slice g c =
+pub returns-in_default-slice : goal.returns-in_default-slice
+returns-in_default-slice g c =
     stages.bad_bits_at (g.K.Kit.model c.args.scope.now.kit.now) _ _ _ _ c.args.i c.requires.within c.requires.stage c.word-name.result.now c.word-name.ensures
-    c.in-Some.pin c.in-Some.ensures.is c.in-default-slice.ensures
+    c.in-Some.pin c.in-Some.ensures.is c.in_default-slice.ensures
 
 pub far-end-requires : goal.far-end-requires
 far-end-requires g c = record {
@@ -34,10 +34,10 @@ far-end-requires g c = record {
   others = stages.others_at _ _ _ _ _ c.args.i c.requires.within c.requires.stage c.args.from c.requires.others;
 }
 
-pub returns-in-default-far-end : goal.returns-in-default-far-end
-returns-in-default-far-end g c =
+pub returns-in_default-far-end : goal.returns-in_default-far-end
+returns-in_default-far-end g c =
     stages.bad_end_at (g.K.Kit.model c.args.scope.now.kit.now) _ _ _ _ c.args.i c.requires.within c.requires.stage c.word-name.result.now c.word-name.ensures
-    c.in-Some.pin c.in-Some-slice.near c.in-Some.ensures.is c.in-Some-slice.ensures c.in-default-far-end.ensures
+    c.in-Some.pin c.in-Some-slice.near c.in-Some.ensures.is c.in-Some-slice.ensures c.in_default-far-end.ensures
 
 pub returns-then-far-near : goal.returns-then-far-near
 returns-then-far-near g c =

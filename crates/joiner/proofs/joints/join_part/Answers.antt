@@ -6,8 +6,8 @@ use Rattle.joiner.proofs.joints.join_part.Goals as goal
 pub word-requires : goal.word-requires
 word-requires g c = record { opened = c.requires.opened; below = lines.chip_below _ _ _ _ _ c.args.p c.requires.within c.requires.stage }
 
-pub returns-in-default : goal.returns-in-default
-returns-in-default g c = lines.unknown_at _ _ _ _ _ c.args.p c.requires.within c.requires.stage c.word.result.now c.word.ensures c.in-default.ensures
+pub returns-in_default : goal.returns-in_default
+returns-in_default g c = lines.unknown_at _ _ _ _ _ c.args.p c.requires.within c.requires.stage c.word.result.now c.word.ensures c.in_default.ensures
 
 pub overflow-add-i-end : goal.overflow-add-i-end
 overflow-add-i-end g c =
@@ -37,7 +37,7 @@ offset-bounds-connections-i g c =
 pub loop-i-preserved : goal.loop-i-preserved
 loop-i-preserved g c =
     lines.stage_out _ _ _ c.args.parts.now _ c.args.p c.loop-i.i c.in-Some.piece c.requires.within c.loop-i.invariant c.loop-i.auto.i c.loop-i-test.true
-    (set c.loop-i.connections c.loop-i.i c.in-ok-connections.field-0) c.in-ok-connections.ensures
+    (set c.loop-i.connections c.loop-i.i c.in_ok-connections.field-0) c.in_ok-connections.ensures
 
 pub returns : goal.returns
 returns g c =

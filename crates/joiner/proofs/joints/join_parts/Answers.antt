@@ -14,15 +14,15 @@ join-part-requires g c =
       others = text_at _ _ _ _ _ c.loop-p.p l c.loop-p.invariant.0 _ _ c.text-start-from.ensures c.loop-p.invariant.1;
     }
 
-pub returns-in-err-join-part : goal.returns-in-err-join-part
-returns-in-err-join-part g c =
+pub returns-in_err-join-part : goal.returns-in_err-join-part
+returns-in_err-join-part g c =
     let p = err_from_is_err_and c.from-residual.result c.from-residual.ensures.1 in
-    rw (p.1, p.2) c.in-err-join-part.ensures
+    rw (p.1, p.2) c.in_err-join-part.ensures
 
 pub loop-p-preserved : goal.loop-p-preserved
 loop-p-preserved g c =
     let l : c.loop-p.p < length c.loop-p.parts = omega (arith, c.loop-p-test.true, c.loop-p.auto.parts) in (
-      c.in-ok-join-part.ensures,
+      c.in_ok-join-part.ensures,
       λ z e.
           let is : z ≡ c.loop-p.p = omega arith in
           subst (λ (k : ℕ). TextFrom c.args.scope.now.bundle.bytes.now c.text-start-from.result k) (sym is)

@@ -4,7 +4,7 @@ use Rattle.std.proofs.lemmas.Bool.Decides.{nat_tests}
 use Rattle.lexer.proofs.Sorts.{mark, token_mark}
 use Rattle.lexer.proofs.scan.mark.Goals as goal
 
-pub returns-in-default : goal.returns-in-default
-returns-in-default c = λ t h.
+pub returns-in_default : goal.returns-in_default
+returns-in_default c = λ t h.
     let none : mark c.args.b ≡ false = grind (arith, nat_tests) in
     both_ways _ none (token_mark c.args.b t c.requires h)

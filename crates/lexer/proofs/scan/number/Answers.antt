@@ -5,17 +5,17 @@ use Rattle.std.specs.Str.Parse.{digits_value}
 use Rattle.lexer.proofs.Numerals.{digit_value, value_front}
 use Rattle.lexer.proofs.scan.number.Goals as goal
 
-pub returns-then-n-gt-MAX-NUMBER : goal.returns-then-n-gt-MAX-NUMBER
-returns-then-n-gt-MAX-NUMBER c = λ n h.
+pub returns-then-n-gt-MAX_NUMBER : goal.returns-then-n-gt-MAX_NUMBER
+returns-then-n-gt-MAX_NUMBER c = λ n h.
     let bs = c.args.bytes.now in
     let i = c.loop-b.b-index in
-    omega (arith, digits_value_more 10 bs i c.loop-b-test.true, digit_value (get_or bs i 0) (sym c.if-not-is-ascii-digit.ensures.value), value_front (i + 1) bs, c.loop-b.invariant.0, h.worth, h.small)
+    omega (arith, digits_value_more 10 bs i c.loop-b-test.true, digit_value (get_or bs i 0) (sym c.if-not-is_ascii_digit.ensures.value), value_front (i + 1) bs, c.loop-b.invariant.0, h.worth, h.small)
 
 pub loop-b-preserved : goal.loop-b-preserved
 loop-b-preserved c =
     let bs = c.args.bytes.now in
     let i = c.loop-b.b-index in
-    let d = sym c.if-not-is-ascii-digit.ensures.value in
+    let d = sym c.if-not-is_ascii_digit.ensures.value in
     (omega (arith, digits_value_more 10 bs i c.loop-b-test.true, digit_value (get_or bs i 0) d, c.loop-b.invariant.0), omega arith, below_more _ _ c.loop-b.invariant.2 d)
 
 pub returns : goal.returns

@@ -4,6 +4,6 @@ use Rattle.lexer.proofs.scan.word.Goals as goal
 
 pub returns-in-None : goal.returns-in-None
 returns-in-None c =
-    no_word _ c.requires.some c.requires.word c.in-default.ensures
-    (λ h. false≢true (c.if-is-name.ensures.1 h))
+    no_word _ c.requires.some c.requires.word c.in_default.ensures
+    (λ h. false≢true (c.if-is_name.ensures.1 h))
     c.in-None.ensures

@@ -3,8 +3,8 @@ use Rattle.packer.proofs.Places.{name_read, text_read, bytes_more, bytes_within}
 use Rattle.packer.proofs.Bytes.{rows_more, rows_all}
 use Rattle.packer.proofs.write.push_rows.Goals as goal
 
-pub push-row-requires : goal.push-row-requires
-push-row-requires c =
+pub push_row-requires : goal.push_row-requires
+push_row-requires c =
     let ss = c.args.sources.now in
     let i = c.loop-source.source-index in
     let l = c.loop-source-test.true in
@@ -13,8 +13,8 @@ push-row-requires c =
       within = omega (arith, ap length (text_read ss i l), bytes_more ss i l, bytes_within ss (i + 1), c.loop-source.invariant.0);
     }
 
-pub overflow-add-start : goal.overflow-add-start
-overflow-add-start c =
+pub overflow_add-start : goal.overflow_add-start
+overflow_add-start c =
     let ss = c.args.sources.now in
     let i = c.loop-source.source-index in
     let l = c.loop-source-test.true in
@@ -27,7 +27,7 @@ loop-source-preserved c =
     let i = c.loop-source.source-index in
     let l = c.loop-source-test.true in (
       omega (arith, ap length (text_read ss i l), bytes_more ss i l, c.loop-source.invariant.0),
-      rows_more _ _ _ ss i _ _ l c.in-ok-push-row.ensures c.loop-source.invariant.1,
+      rows_more _ _ _ ss i _ _ l c.in_ok-push_row.ensures c.loop-source.invariant.1,
     )
 
 pub returns : goal.returns

@@ -5,6 +5,6 @@ pub returns : goal.returns
 returns c =
     all_written _ _ _ _ c.args.sources.now
     c.new-out.ensures.items
-    c.in-ok-push-number.ensures
-    c.in-ok-push-rows.ensures
-    c.in-ok-push-texts.ensures
+    c.in_ok-push_number.ensures
+    c.in_ok-push_rows.ensures
+    c.in_ok-push_texts.ensures

@@ -11,5 +11,5 @@ whole s empty some all w n m k a b c d e f g =
 pub returns : goal.returns
 returns c =
     let bundle = c.args.bundle.now in
-    whole bundle.bytes.now _ _ _ _ _ _ _ c.new-page.ensures.items c.in-ok-put-entries.ensures c.in-ok-put-total.ensures
-    c.name-width.ensures c.requires.opened.counted c.count.ensures c.requires.whole
+    whole bundle.bytes.now _ _ _ _ _ _ _ c.new-page.ensures.items c.in_ok-put_entries.ensures c.in_ok-put_total.ensures
+    c.name_width.ensures c.requires.opened.counted c.count.ensures c.requires.whole

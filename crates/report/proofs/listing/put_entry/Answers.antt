@@ -25,12 +25,12 @@ returns c = λ b at.
     let ns = nn ++ codes " " ++ right 5 (decimal entry.start) in
     let long : length entry.text.now ≡ size bytes k =
     ap length at.holds ∙ length-between bytes (start bytes k) (start bytes k + size bytes k) at.lies.within ∙ (omega arith) in
-    let g1 = c.in-ok-put-right.ensures in
-    let g2 = grown page n (codes " ") g1 c.in-ok-push.ensures.items in
-    let g3 = grown page (n ++ codes " ") (left w entry.name.now) g2 c.in-ok-put-left.ensures in
-    let g4 = grown page nn (codes " ") g3 c.in-ok-push-2.ensures.items in
-    let g5 = grown page (nn ++ codes " ") (right 5 (decimal entry.start)) g4 c.in-ok-put-right-2.ensures in
-    let g6 = grown page ns (codes " ") g5 c.in-ok-push-3.ensures.items in
-    let g7 = grown page (ns ++ codes " ") (right 5 (decimal (length entry.text.now))) g6 c.in-ok-put-right-3.ensures in
-    let g8 = grown page (ns ++ codes " " ++ right 5 (decimal (length entry.text.now))) (10 ∷ []) g7 c.in-ok-push-4.ensures.items in
+    let g1 = c.in_ok-put_right.ensures in
+    let g2 = grown page n (codes " ") g1 c.in_ok-push.ensures.items in
+    let g3 = grown page (n ++ codes " ") (left w entry.name.now) g2 c.in_ok-put_left.ensures in
+    let g4 = grown page nn (codes " ") g3 c.in_ok-push-2.ensures.items in
+    let g5 = grown page (nn ++ codes " ") (right 5 (decimal entry.start)) g4 c.in_ok-put_right-2.ensures in
+    let g6 = grown page ns (codes " ") g5 c.in_ok-push-3.ensures.items in
+    let g7 = grown page (ns ++ codes " ") (right 5 (decimal (length entry.text.now))) g6 c.in_ok-put_right-3.ensures in
+    let g8 = grown page (ns ++ codes " " ++ right 5 (decimal (length entry.text.now))) (10 ∷ []) g7 c.in_ok-push-4.ensures.items in
     g8 ∙ ap (λ l. page ++ l) (same_line k w at.named at.starts long)

@@ -1,6 +1,6 @@
-use Rattle.std.proofs.Common.{rules}
-use Rattle.text.proofs.Comparing.{lex_order}
+use Rattle.std.proofs.Common.{◌∙◌}
+use Rattle.text.proofs.Comparing.{cmp_order}
 use Rattle.text.proofs.name.compare.Goals as goal
 
 pub returns : goal.returns
-returns c = search (rules, lex_order)
+returns c = c.cmp.ensures ∙ cmp_order _ _

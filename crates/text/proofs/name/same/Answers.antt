@@ -5,5 +5,5 @@ use Rattle.text.proofs.name.same.Goals as goal
 pub returns-in-Equal : goal.returns-in-Equal
 returns-in-Equal c = search (rules, same_order)
 
-pub returns-in-default : goal.returns-in-default
-returns-in-default c = search (rules, unlike_order)
+pub returns-in_default : goal.returns-in_default
+returns-in_default c = search (rules, unlike_order)

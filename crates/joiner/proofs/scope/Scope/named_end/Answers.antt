@@ -16,4 +16,4 @@ returns g c r pins upto near =
     λ l. elim c.if-mention-i.branch [ then-mention-i x ↦ absurd (omega (arith, x.if-mention-i.true)) | else-mention-i x ↦ x.width-is ] in
     c.internal-end.ensures
     ∙ named_internal (g.K.Kit.model t.kit.now) t.bundle.bytes.now r c.args.i cs upto t.pins.now c.args.near h w _ c.word-name.result.now c.args.span c.args.bits
-    pins (ap (λ x. x.entry) (upto.left c.args.i (omega arith))) c.word-name.ensures c.in-default.ensures.is near c.first-mention-mention.ensures early here
+    pins (ap (λ x. x.entry) (upto.left c.args.i (omega arith))) c.word-name.ensures c.in_default.ensures.is near c.first-mention-mention.ensures early here

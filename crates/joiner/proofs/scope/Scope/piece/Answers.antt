@@ -7,12 +7,12 @@ returns-in-Some g c =
     let f = c.in-Some.ensures.first in
     sym (piece_found (g.K.Kit.model c.args.self.now.kit.now) _ _ _ _ (entry_some c.args.self.now.bundle c.requires c.args.name.now c.in-Some.entry f.0 f.1) refl)
 
-pub returns-in-err-find : goal.returns-in-err-find
-returns-in-err-find g c =
-    let none = entry_none c.args.self.now.bundle c.requires c.args.name.now c.in-default.ensures.first in
-    c.from-residual.ensures ∙ sym (piece_found (g.K.Kit.model c.args.self.now.kit.now) _ _ _ _ none (sym c.in-err-find.ensures.is))
+pub returns-in_err-find : goal.returns-in_err-find
+returns-in_err-find g c =
+    let none = entry_none c.args.self.now.bundle c.requires c.args.name.now c.in_default.ensures.first in
+    c.from-residual.ensures ∙ sym (piece_found (g.K.Kit.model c.args.self.now.kit.now) _ _ _ _ none (sym c.in_err-find.ensures.is))
 
 pub returns : goal.returns
 returns g c =
-    let none = entry_none c.args.self.now.bundle c.requires c.args.name.now c.in-default.ensures.first in
-    sym (piece_found (g.K.Kit.model c.args.self.now.kit.now) _ _ _ _ none (sym c.in-ok-find.ensures.is))
+    let none = entry_none c.args.self.now.bundle c.requires c.args.name.now c.in_default.ensures.first in
+    sym (piece_found (g.K.Kit.model c.args.self.now.kit.now) _ _ _ _ none (sym c.in_ok-find.ensures.is))
