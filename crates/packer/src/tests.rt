@@ -22,7 +22,7 @@ const AND: Source<'static> = Source {
 #[test]
 fn names_rise(rt: HostRuntime) -> Result<(), Fail> {
     let bytes = pack(rt.alloc(), &[OR, AND])?;
-    assert!(rt; bytes.as_slice() == BUNDLE);
+    assert!(rt; bytes.as_slice() == BUNDLE.as_slice());
     Ok(())
 }
 

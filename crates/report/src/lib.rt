@@ -1,5 +1,6 @@
 //! Answers as text for a person.
 #![tactic(auto)]
+
 mod chips;
 mod columns;
 mod faults;

@@ -1,4 +1,4 @@
-use Rattle.std.proofs.Common.{◌≡◌, ℕ, List, [], ◌∷◌, ◌++◌, length, ap, ◌∙◌}
+use Rattle.std.proofs.Common.{◌≡◌, ℕ, List, [], ◌++◌, length, ap, ◌∙◌}
 use Rattle.bundle.specs.Layout.{count}
 use Rattle.report.specs.Columns.{lines, listing, total, widest}
 use Rattle.report.proofs.listing.listing.Goals as goal

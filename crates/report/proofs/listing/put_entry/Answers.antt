@@ -1,6 +1,6 @@
-use Rattle.std.proofs.Common.{◌≡◌, ℕ, ◌+◌, ◌-◌, List, [], ◌∷◌, ◌++◌, length, vec_items, codes, decimal, sym, ap, ◌∙◌, arith}
+use Rattle.std.proofs.Common.{◌≡◌, ℕ, ◌+◌, List, [], ◌∷◌, ◌++◌, length, vec_items, codes, decimal, ap, ◌∙◌, arith}
 use Rattle.std.proofs.lemmas.List.Edits.{length-between}
-use Rattle.bundle.specs.Layout.{name, start, size}
+use Rattle.bundle.specs.Layout.{start, size}
 use Rattle.report.specs.Columns.{left, right}
 use Rattle.report.proofs.Growing.{grown}
 use Rattle.report.proofs.listing.put_entry.Goals as goal

@@ -7,6 +7,6 @@ loop-i-preserved c =
     let s = c.args.text.now in
     let i = c.loop-i.i in
     elim c.if-text-i-eq10.branch [
-      | then-text-i-eq10 w ↦ newline_step s i _ _ _ _ c.loop-i.invariant w.if-text-i-eq10.true w.line_is w.start-is
-      | else-text-i-eq10 w ↦ other_step s i _ _ _ _ c.loop-i.invariant w.if-text-i-eq10.false w.line_is w.start-is
+      | then-text-i-eq10 w ↦ newline_step s i _ _ _ _ c.loop-i.invariant w.if-text-i-eq10.true w.line-is w.start-is
+      | else-text-i-eq10 w ↦ other_step s i _ _ _ _ c.loop-i.invariant w.if-text-i-eq10.false w.line-is w.start-is
     ]
