@@ -1,5 +1,6 @@
 //! Tests of the bench on examples. Expected values come from the rules in docs/.
 #![tactic(auto)]
+
 #[cfg(test)]
 mod bundles;
 #[cfg(test)]

@@ -1,5 +1,6 @@
 //! The commands of the program: what they read, write and print.
 #![tactic(auto)]
+
 mod commands;
 mod rom;
 mod wording;

@@ -1,5 +1,6 @@
 //! What programs in other languages can call. `bench/` measures through it.
 #![tactic(auto)]
+
 ghost use Rattle.std.specs.Prelude.{◌≡◌};
 ghost use Rattle.fault.specs.Faults.{number_of};
 ghost use Rattle.kit.specs.Atoms.{atoms};

@@ -1,6 +1,7 @@
 //! Joining: the texts of a bundle are read, and the names in their records are looked up in the
 //! bundle and in a kit of built-in parts, or the first fault is told.
 #![tactic(auto)]
+
 ghost use Rattle.std.specs.Prelude.{◌≡◌, MatchResult};
 ghost use Rattle.reader.specs.Verdicts.{made_of};
 ghost use Rattle.joiner.specs.Verdicts.{Accepted, Refused};

@@ -1,6 +1,6 @@
 -- Sources that keep the rules, put in the order of their names.
 use Rattle.std.proofs.Common.{◌≡◌, ℕ, zero, suc, ◌+◌, ◌*◌, ◌<◌, ◌≤◌, false, ◌⊎◌, List, [], ◌∷◌, length, get_or, Ordering, Less, Equal, Greater, sym, refl, ap, ◌∙◌, subst, inl, inr, ⊎_elim, arith}
-use Rattle.std.specs.Ordering.{is_lt, ordering_reverse}
+use Rattle.std.specs.Ordering.{is_lt}
 use Rattle.std.specs.List.Sorted.{IsPermutation, IsSortedWithin}
 use Rattle.std.specs.List.{swap, AllByRecursion as All}
 use Rattle.std.proofs.lemmas.List.Edits.{swapped_from_swap, length-swap}
@@ -10,7 +10,7 @@ use Rattle.std.proofs.lemmas.List.Sorted.{length_permutation, IsPermutation-keep
 use Rattle.std.proofs.lemmas.Bool.{cases_eq, cases_order, true≢false}
 use Rattle.text.specs.Names.{Named}
 use Rattle.text.specs.Orders.{order, Before}
-use Rattle.text.proofs.Comparing.{same_order, order_flip, before_trans, before_irrefl}
+use Rattle.text.proofs.Comparing.{same_order, order_flip}
 use Rattle.packer.specs.declared.source.Source.{Source}
 use Rattle.packer.specs.Rules.{name_of, text_of, bytes, Sound}
 use Rattle.packer.specs.Written.{Writable}

@@ -1,5 +1,6 @@
 //! The packer: chip texts, each with the name that it goes by, made into one bundle.
 #![tactic(auto)]
+
 mod check;
 mod faults;
 mod source;

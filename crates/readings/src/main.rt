@@ -3,6 +3,7 @@
 //! A line of standard input has the texts of a bundle, each as `x` and its bytes in hex; they go by the
 //! names A, B, C and so on. `tools/reference.py` makes the lines and the answers that are expected.
 #![tactic(auto)]
+
 ghost use Rattle.std.specs.Prelude.{◌<◌};
 
 use catalogue::{CONNECTIONS, ConnectionRecord, Counts, PARTS, PINS, PartRecord, PinRecord};

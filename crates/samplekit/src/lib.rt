@@ -1,5 +1,6 @@
 //! A kit for tests, and an example of how a kit is added: wide kinds, clocked and unclocked.
 #![tactic(auto)]
+
 ghost use Rattle.std.specs.Prelude.{◌≡◌};
 ghost use Rattle.std.specs.Str.{bytes_eq};
 ghost use Rattle.kit.specs.Headers.{pin_of};

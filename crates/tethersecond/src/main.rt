@@ -1,5 +1,6 @@
 //! The chip bench as a program. All that it does is in the crate `console`.
 #![tactic(auto)]
+
 use console::Stop;
 
 fn main(rt: HostRuntime) -> Result<(), Stop> {
