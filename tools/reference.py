@@ -7,8 +7,10 @@ It makes the data and the expected output that the gate holds the program to:
     tools/reference.py list BUNDLE
     tools/reference.py outline BUNDLE
     tools/reference.py check BUNDLE       # whether it joins with the atoms
-    tools/reference.py cases              # random and chosen bundles, a line of hex each
-    tools/reference.py verdicts < CASES   # what reading, and then joining with the atoms and ROM, says of each
+    tools/reference.py cases              # random and chosen bundles for reading, a line of hex each
+    tools/reference.py verdicts < CASES   # what reading says of each
+    tools/reference.py joining-cases      # those, and bundles for joining
+    tools/reference.py joining-verdicts < CASES   # what reading, and then joining with the atoms and ROM, says of each
     tools/reference.py large OUT          # a bundle of 65,535 bytes, for bench/
     tools/reference.py full OUT           # one of 65,535 bytes that joins, with 1,024 parts and 4,096 connections
     tools/reference.py full1 OUT          # as many of both in a single text
@@ -407,9 +409,10 @@ def verdict(texts):
         return told + spelled_fault(fault)
 
 
-def verdicts():
+def verdicts(joined):
     for line in sys.stdin:
-        print(verdict([bytes.fromhex(t[1:]) for t in line.split()]))
+        told = verdict([bytes.fromhex(t[1:]) for t in line.split()])
+        print(told if joined else told.split(";")[0])
 
 
 # Cases
@@ -850,14 +853,11 @@ def written(rng, chips):
         yield chip(" ".join(lines), (f"IN {sides[0]}; " if inputs else "") + f"OUT {sides[1]};", name)
 
 
+def line(*texts):
+    print(" ".join("x" + t.encode("latin-1").hex() for t in texts))
+
+
 def cases():
-    def line(*texts):
-        print(" ".join("x" + t.encode("latin-1").hex() for t in texts))
-
-    def told(*texts):
-        """What joining says of texts that are read."""
-        return verdict([t.encode("latin-1") for t in texts]).split("; ")[1]
-
     for text in chosen():
         line(text)
     good = "CHIP {} {{ IN a , b [ 4 ] ; OUT c ; PARTS : N ( x = a , y [ 1 ] = b [ 2 .. 3 ] , z = false ) ; M ( q = c ) ; }}"
@@ -878,6 +878,13 @@ def cases():
     line(wires("A", 4095), wires("B", 1))
     line(wires("A", 4096), wires("B", 1))
 
+
+def joining_cases():
+    def told(*texts):
+        """What joining says of texts that are read."""
+        return verdict([t.encode("latin-1") for t in texts]).split("; ")[1]
+
+    cases()
     for number, *texts in joining():
         bare = [t.replace("^", "") for t in texts]
         places = [f"fault {number} {k} {t.index('^')}" for k, t in enumerate(texts) if "^" in t] or ["joined"]
@@ -977,8 +984,10 @@ def main(words):
             out.write({"large": large, "full": full, "full1": full1}[words[0]]())
     elif words == ["cases"]:
         cases()
-    elif words == ["verdicts"]:
-        verdicts()
+    elif words == ["joining-cases"]:
+        joining_cases()
+    elif words in (["verdicts"], ["joining-verdicts"]):
+        verdicts(words == ["joining-verdicts"])
     else:
         sys.exit(__doc__)
 
