@@ -1,11 +1,12 @@
 //! Texts that are joined, and what the records then hold; faults of joining as a person sees them.
 use catalogue::{
-    CONNECTIONS, ConnectionRecord, Counts, Joint, PARTS, PINS, PartRecord, Piece, PinRecord, Target,
+    CONNECTIONS, ConnectionRecord, Counts, Joint, PARTS, PINS, PartRecord, Piece, PinRecord, Side,
+    Target,
 };
 use fault::Fault;
 use inspect::check as check_report;
 use joiner::join;
-use kit::{Atoms, Kit, Pair, Pin, Rom};
+use kit::{Atoms, Kit, Pair, Rom};
 use packer::{Source, pack};
 use samplekit::Sample;
 use std::process::Abort;
@@ -20,7 +21,7 @@ struct Records {
 }
 
 /// The bundle of texts that are named.
-fn bundle_of(rt: &HostRuntime, sources: &[Source<'_>]) -> Result<Vec<u8>, Fail> {
+fn bundle_of(rt: &impl AllocGlobal, sources: &[Source<'_>]) -> Result<Vec<u8>, Fail> {
     match pack(rt.alloc(), sources) {
         Ok(bytes) => Ok(bytes),
         Err(_) => Err(Fail::new("the texts were not packed")),
@@ -28,7 +29,7 @@ fn bundle_of(rt: &HostRuntime, sources: &[Source<'_>]) -> Result<Vec<u8>, Fail> 
 }
 
 /// What joining makes of a bundle's records.
-fn joined<K: Kit>(rt: &HostRuntime, kit: &K, sources: &[Source<'_>]) -> Result<Records, Fail> {
+fn joined<K: Kit>(rt: &impl AllocGlobal, kit: &K, sources: &[Source<'_>]) -> Result<Records, Fail> {
     let heap = rt.alloc();
     let bytes = bundle_of(rt, sources)?;
     let mut pins = vec![in heap; PinRecord::BLANK; PINS]?;
@@ -54,14 +55,18 @@ fn named(text: &'static [u8]) -> Source<'static> {
 }
 
 /// That a bundle is joined.
-fn accepted<K: Kit>(rt: &HostRuntime, kit: &K, sources: &[Source<'_>]) -> Result<(), Fail> {
-    assert!(joined(rt, kit, sources)?.verdict.is_ok());
+fn accepted<K: Kit>(
+    rt: &(impl Abort + AllocGlobal),
+    kit: &K,
+    sources: &[Source<'_>],
+) -> Result<(), Fail> {
+    assert!(rt; joined(rt, kit, sources)?.verdict.is_ok());
     Ok(())
 }
 
 /// That a bundle has this fault.
 fn refused<K: Kit>(
-    rt: &HostRuntime,
+    rt: &(impl Abort + AllocGlobal),
     kit: &K,
     sources: &[Source<'_>],
     number: u8,
@@ -71,9 +76,9 @@ fn refused<K: Kit>(
     match joined(rt, kit, sources)?.verdict {
         Ok(_) => Err(Fail::new("the texts were joined")),
         Err(fault) => {
-            assert_eq!(fault.cause.number(), number);
-            assert_eq!(fault.place.entry, entry);
-            assert_eq!(fault.place.byte, byte);
+            assert_eq!(rt; fault.cause.number(), number);
+            assert_eq!(rt; fault.place.entry, entry);
+            assert_eq!(rt; fault.place.byte, byte);
             Ok(())
         }
     }
@@ -82,7 +87,9 @@ fn refused<K: Kit>(
 /// A part's input, from these bits on.
 fn input(first: usize, width: usize, target: Target) -> Joint {
     Joint {
-        near: Pin::input(first, width),
+        side: Side::In,
+        offset: first,
+        width,
         target,
     }
 }
@@ -90,7 +97,9 @@ fn input(first: usize, width: usize, target: Target) -> Joint {
 /// A part's output, from these bits on.
 fn output(first: usize, width: usize, target: Target) -> Joint {
     Joint {
-        near: Pin::output(first, width),
+        side: Side::Out,
+        offset: first,
+        width,
         target,
     }
 }
@@ -251,12 +260,16 @@ const MIXED: Source<'static> = Source {
 };
 
 /// That a kit has the parts of the mixed chip, under these numbers.
-fn mixed_is_joined<K: Kit>(rt: &HostRuntime, kit: &K, kinds: [usize; 6]) -> Result<(), Fail> {
+fn mixed_is_joined<K: Kit>(
+    rt: &(impl Abort + AllocGlobal),
+    kit: &K,
+    kinds: [usize; 6],
+) -> Result<(), Fail> {
     let records = joined(rt, kit, &[MIXED])?;
-    assert!(records.verdict.is_ok());
+    assert!(rt; records.verdict.is_ok());
     for (part, kind) in kinds.iter().enumerate() {
-        assert!(part < records.parts.len());
-        assert_eq!(records.parts[part].piece, Piece::Kind(*kind));
+        assert!(rt; part < records.parts.len());
+        assert_eq!(rt; records.parts[part].piece, Piece::Kind(*kind));
     }
     Ok(())
 }
