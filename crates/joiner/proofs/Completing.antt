@@ -13,7 +13,6 @@ use Rattle.catalogue.specs.declared.records.FarEnd.{FarEnd}
 use Rattle.catalogue.specs.declared.records.FarEnd.TheVariants as far
 use Rattle.catalogue.specs.declared.records.Piece.{Piece}
 use Rattle.catalogue.specs.declared.records.Piece.TheVariants.{Entry, Kind}
-use Rattle.catalogue.specs.declared.records.Target.TheVariants as target
 use Rattle.catalogue.specs.declared.records.PinRecord.{PinRecord}
 use Rattle.catalogue.specs.declared.records.PartRecord.{PartRecord}
 use Rattle.catalogue.specs.declared.records.ConnectionRecord.{ConnectionRecord}
@@ -26,7 +25,7 @@ use Rattle.joiner.specs.declared.feeds.Feed.{Feed}
 use Rattle.joiner.specs.declared.join_fault.JoinFault.TheVariants as refusal
 use Rattle.joiner.specs.Meaning.{piece}
 use Rattle.joiner.specs.Feeding.{Covers, Feeds, OpenIn}
-use Rattle.joiner.specs.Joined.{joint, joined_part, joined_connection}
+use Rattle.joiner.specs.Joined.{joined_part, joined_connection}
 use Rattle.joiner.specs.Rules as rules
 use Rattle.joiner.specs.Rules.{Fed, InputBit, declared, built_in, OpenPart, OpenOutput, OpenInternal, LeftOpen, Breaks, unknown_part, wrong}
 use Rattle.joiner.specs.Verdicts.{left_open}

@@ -11,7 +11,6 @@ use Rattle.catalogue.specs.declared.records.Piece.{Piece}
 use Rattle.catalogue.specs.Records.{Records}
 use Rattle.wellformed.specs.Places.{Sooner, part, connection, part_place, connection_place}
 use Rattle.wellformed.specs.WellFormed.{WellFormed}
-use Rattle.joiner.specs.declared.ends.Far.{Far}
 use Rattle.joiner.specs.Meaning.{piece, near_pin, near, far_end}
 use Rattle.joiner.specs.Search.{chained}
 use Rattle.joiner.specs.Slices.{slice_of}

@@ -1,8 +1,8 @@
 -- Pins that names mean fit their sides.
-use Rattle.std.proofs.Common.{◌≡◌, ℕ, ◌+◌, ◌<◌, ◌≤◌, Bool, List, length, get_or, Some, None, Option, sym, refl, subst, ⊎_elim, arith}
+use Rattle.std.proofs.Common.{◌≡◌, ℕ, ◌<◌, ◌≤◌, List, length, get_or, Some, None, Option, refl, ⊎_elim, arith}
 use Rattle.std.specs.Option.{option_map}
 use Rattle.std.proofs.lemmas.Bool.{cases_lt}
-use Rattle.kit.specs.Models.{Model, Sound, Placed, on}
+use Rattle.kit.specs.Models.{Model, Sound, on}
 use Rattle.kit.specs.declared.shape.Side.{Side}
 use Rattle.kit.specs.declared.shape.Side.TheVariants.{In, Out}
 use Rattle.kit.specs.declared.shape.Pin.{Pin}

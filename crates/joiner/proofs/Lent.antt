@@ -1,22 +1,20 @@
 -- Joining in lent memory: the front of it holds the records, and blank ones stay behind them.
-use Rattle.std.proofs.Common.{◌≡◌, ℕ, ◌+◌, ◌-◌, ◌<◌, ◌≤◌, List, ◌++◌, length, get_or, take, drop, replicate, sym, refl, ap, ◌∙◌, subst, arith, length-append}
+use Rattle.std.proofs.Common.{◌≡◌, ℕ, ◌-◌, List, ◌++◌, length, get_or, take, drop, replicate, sym, ap, ◌∙◌, subst, arith, length-append}
 use borrow.Rule.Slice.PartMut.{post_of}
 use Rattle.std.proofs.lemmas.List.{take_at, drop_at, length-replicate}
-use Rattle.std.proofs.lemmas.List.FromFn.{length-map-range_with_len}
-use Rattle.bundle.specs.Layout.{Layout, count}
+use Rattle.bundle.specs.Layout.{count}
 use Rattle.kit.specs.Models.{Model}
 use Rattle.catalogue.specs.declared.records.PinRecord.{PinRecord}
 use Rattle.catalogue.specs.declared.records.PartRecord.{PartRecord}
 use Rattle.catalogue.specs.declared.records.ConnectionRecord.{ConnectionRecord}
 use Rattle.catalogue.specs.declared.room.Counts.{Counts}
 use Rattle.catalogue.specs.Records.{Records, blank_pin, blank_part, blank_connection}
-use Rattle.catalogue.specs.Holding.{Slices, Holds}
-use Rattle.reader.specs.Verdicts.{ReadUpto, made_of}
+use Rattle.catalogue.specs.Holding.{Slices}
+use Rattle.reader.specs.Verdicts.{made_of}
 use Rattle.reader.proofs.OneBundle.{one_reading}
-use Rattle.wellformed.specs.Places.{part, connection}
 use Rattle.wellformed.proofs.Reading.{read_well_formed}
 use Rattle.joiner.specs.Joined.{joined, joined_part, joined_connection}
-use Rattle.joiner.specs.Lent.{ReadInto, JoinedInto, counts_of}
+use Rattle.joiner.specs.Lent.{ReadInto, JoinedInto}
 use Rattle.joiner.specs.Stages.{Upto, LineStage, Complete}
 
 -- the front of memory that holds records

@@ -17,7 +17,7 @@ use Rattle.joiner.specs.Stages.{ConnectionsUpto}
 use Rattle.joiner.proofs.Search.{Found, first_same, first_found}
 
 -- a joint has the bits of the near end
-joint_width : (f : Pin → Option Far) (o : Option Pin) → (joint_by f o).near.width ≡ width_of o
+joint_width : (f : Pin → Option Far) (o : Option Pin) → (joint_by f o).width ≡ width_of o
 joint_width f None = refl
 joint_width f (Some p) = refl
 
@@ -37,13 +37,13 @@ module _ (m : Model) (s : List ℕ) (r : Records) (i : ℕ) (cs : List Connectio
 
   -- the width of an internal pin that the connection i mentions, as it is read from the connections
   pub internal_is : (p : Pin) (h w e : ℕ) (n : List ℕ) (b : Subscript) → near m s r i ≡ Some p → h ≡ first_mention s cs e n i →
-      (h < i → w ≡ (get_or cs h blank_connection).joint.near.width) → (i ≤ h → w ≡ p.width) →
+      (h < i → w ≡ (get_or cs h blank_connection).joint.width) → (i ≤ h → w ≡ p.width) →
       internal_far h w b ≡ internal m s r (first_mention s r.connections e n i) b
   internal_is p h w e n b k at early here =
       let same : h ≡ first_mention s r.connections e n i = at ∙ same_mention e n in
       let wide : w ≡ width_of (near m s r h) =
       ⊎_elim
-      (λ (l : h < i). early l ∙ ap (λ c. c.joint.near.width) (u.done h l) ∙ joint_width (far_end m s r h) (near m s r h))
+      (λ (l : h < i). early l ∙ ap (λ c. c.joint.width) (u.done h l) ∙ joint_width (far_end m s r h) (near m s r h))
       (λ (l : i ≤ h).
       let is : h ≡ i = omega (arith, mention_upto s cs e n i) in
       here l ∙ ap width_of (sym k) ∙ ap (λ j. width_of (near m s r j)) (sym is))
@@ -52,7 +52,7 @@ module _ (m : Model) (s : List ℕ) (r : Records) (i : ℕ) (cs : List Connectio
 
   -- a name at the far end that the chip does not declare
   pub named_internal : (pins : List PinRecord) (p : Pin) (h w e : ℕ) (n : List ℕ) (x : Span) (b : Subscript) → r.pins ≡ pins → e ≡ (connection r i).entry → n ≡ word s e x →
-      None ≡ declared s pins e n → near m s r i ≡ Some p → h ≡ first_mention s cs e n i → (h < i → w ≡ (get_or cs h blank_connection).joint.near.width) → (i ≤ h → w ≡ p.width) →
+      None ≡ declared s pins e n → near m s r i ≡ Some p → h ≡ first_mention s cs e n i → (h < i → w ≡ (get_or cs h blank_connection).joint.width) → (i ≤ h → w ≡ p.width) →
       internal_far h w b
       ≡ named_far m s r i p.side (word s (connection r i).entry x) b (declared s r.pins (connection r i).entry (word s (connection r i).entry x))
   named_internal pins p h w e n x b same chip name undeclared k at early here =

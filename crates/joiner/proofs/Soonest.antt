@@ -1,6 +1,6 @@
 -- The first of what is left open.
-use Rattle.std.proofs.Common.{◌≡◌, ℕ, ◌<◌, ◌≤◌, Bool, true, false, cond, ◌&&◌, ◌||◌, eqb, ltb, ◌⊎◌, Some, None, Option, sym, refl, ap, ◌∙◌, subst, inl, inr, ⊎_elim, arith, MatchOption}
-use Rattle.std.proofs.lemmas.Bool.{cases_lt, cases_order, ltb-true, eqb-true, lt-ltb, eq-eqb, and_parts, and_from, or_cases, or_parts, both_ways, or_left, or_right}
+use Rattle.std.proofs.Common.{◌≡◌, ℕ, ◌<◌, ◌≤◌, Bool, true, false, cond, ◌&&◌, eqb, ltb, ◌⊎◌, Some, None, Option, refl, subst, inl, inr, ⊎_elim, arith, MatchOption}
+use Rattle.std.proofs.lemmas.Bool.{cases_lt, cases_order, ltb-true, eqb-true, lt-ltb, eq-eqb, and_parts, and_from, or_cases, both_ways, or_left, or_right}
 use Rattle.fault.specs.declared.Place.{Place}
 use Rattle.wellformed.specs.Places.{Sooner}
 use Rattle.joiner.specs.Opens.{FirstPlace, is_sooner, sooner_of}

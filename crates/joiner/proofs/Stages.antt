@@ -12,6 +12,7 @@ use Rattle.bundle.specs.Entries.{Opened}
 use Rattle.bundle.specs.declared.opened.Bundle.{Bundle}
 use Rattle.kit.specs.Models.{Model}
 use Rattle.kit.specs.declared.shape.Pin.{Pin}
+use Rattle.catalogue.specs.declared.records.Joint.{Joint}
 use Rattle.catalogue.specs.declared.records.Piece.{Piece}
 use Rattle.catalogue.specs.declared.records.Piece.TheVariants.{Entry, Kind}
 use Rattle.catalogue.specs.declared.records.PinRecord.{PinRecord}
@@ -29,7 +30,7 @@ use Rattle.joiner.specs.Slices.{slice_of}
 use Rattle.joiner.specs.Meaning.{word, entry_of, piece_of, pin_of, piece, near_pin, near, far_end}
 use Rattle.joiner.specs.Feeding.{Feeds, FedBefore, feed}
 use Rattle.joiner.specs.Feeders.{Feeders}
-use Rattle.joiner.specs.Joined.{with_joint, target_of, joint_by, joined_connection}
+use Rattle.joiner.specs.Joined.{with_joint, target_of, joint_of, joint_by, joined_connection}
 use Rattle.joiner.specs.Rules.{Met, Once, Wrong, no_pin, bad_bits, bad_end, other_width, fed_twice}
 use Rattle.joiner.specs.Faults.{fault_of}
 use Rattle.joiner.specs.Verdicts.{broken, fault_at}
@@ -211,61 +212,63 @@ module _ (m : Model) (s : List ℕ) (pins : List PinRecord) (parts : List PartRe
         pub other_width_at : (f.width ≡ x.width → ⊥) → Unjoins m s (refusal.WidthsDiffer place)
         other_width_at ne = unjoins (refusal.WidthsDiffer place) cause.WidthsDiffer refl (other_width x f nr (sym fr) ne) low_ends
 
-        -- the connection with its joint
-        abbrev joined_here : ConnectionRecord
-        joined_here = with_joint here (record { near = x; target = f.target })
+        -- the joint, as the code makes it
+        module _ (joint : Joint) (made : joint ≡ joint_of x f.target) where
+          -- the connection with its joint
+          abbrev joined_here : ConnectionRecord
+          joined_here = with_joint here joint
 
-        joined_is : joined_here ≡ joined_connection m s q i
-        joined_is =
-            ap (λ c. with_joint c (record { near = x; target = f.target })) is
-            ∙ ap (with_joint (connection q i)) (ap (λ o. record { near = x; target = target_of o }) fr ∙ ap (joint_by (far_end m s q i)) (sym nr))
+          joined_is : joined_here ≡ joined_connection m s q i
+          joined_is =
+              ap (λ c. with_joint c joint) is
+              ∙ ap (with_joint (connection q i)) (made ∙ ap (λ o. joint_of x (target_of o)) fr ∙ ap (joint_by (far_end m s q i)) (sym nr))
 
-        pub fed_from_at : (n : ℕ) → TextFrom s n here.part → IfSome (feed joined_here) (λ k. Feeders parts cs n i k.sink)
-        fed_from_at n t =
-            subst (λ (c : ConnectionRecord). IfSome (feed c) (λ k. Feeders parts cs n i k.sink)) (sym joined_is)
-            (feeders m s q (formed m s pins parts cs (here.part + 1) i g) (here.part + 1) i n parts cs g.parts_are g.connections_are (λ j a e. t q g.read j a (e ∙ text_is)) below)
+          pub fed_from_at : (n : ℕ) → TextFrom s n here.part → IfSome (feed joined_here) (λ k. Feeders parts cs n i k.sink)
+          fed_from_at n t =
+              subst (λ (c : ConnectionRecord). IfSome (feed c) (λ k. Feeders parts cs n i k.sink)) (sym joined_is)
+              (feeders m s q (formed m s pins parts cs (here.part + 1) i g) (here.part + 1) i n parts cs g.parts_are g.connections_are (λ j a e. t q g.read j a (e ∙ text_is)) below)
 
-        met_here : f.width ≡ x.width → Met m s q i
-        met_here e = record { pin = x; is = nr; far = f; leads = sym fr; wide = e }
+          met_here : f.width ≡ x.width → Met m s q i
+          met_here e = record { pin = x; is = nr; far = f; leads = sym fr; wide = e }
 
-        pub fed_twice_at : f.width ≡ x.width → FedBefore cs i joined_here → Unjoins m s (refusal.FedTwice place)
-        fed_twice_at e b = unjoins (refusal.FedTwice place) cause.FedTwice refl
-            (fed_twice b.by b.bit b.sink b.below
-            (subst (λ (c : ConnectionRecord). Feeds c b.sink b.bit) (g.connections_are.done b.by b.below) b.feeds)
-            (subst (λ (c : ConnectionRecord). Feeds c b.sink b.bit) joined_is b.again))
-            low
-          where
-            low : (c : Cause) → Wrong m s q i c → number_of c < 12 → ⊥
-            low c (no_pin y) n = not_both _ _ (near_of m s q i None y) nr
-            low c (bad_bits p y z) n = not_both _ _ (near_of m s q i (Some p) y ∙ z) nr
-            low c (bad_end p y z) n = not_both _ _ (ap (far_end m s q i) (same_near p y) ∙ z) (sym fr)
-            low c (other_width p h y z w) n = right_width p h y z w
-              where
-                right_width : (p : Pin) (h : Far) → near m s q i ≡ Some p → far_end m s q i p ≡ Some h → (h.width ≡ p.width → ⊥) → ⊥
-                right_width p h y z w =
-                    let u = same_near p y in
-                    let v : f ≡ h = one_answer _ _ _ (sym fr) (ap (far_end m s q i) u ∙ z) in
-                    w (ap (λ a. a.width) (sym v) ∙ e ∙ ap (λ a. a.width) u)
-            low c (fed_twice j b k u y z) n = omega arith
+          pub fed_twice_at : f.width ≡ x.width → FedBefore cs i joined_here → Unjoins m s (refusal.FedTwice place)
+          fed_twice_at e b = unjoins (refusal.FedTwice place) cause.FedTwice refl
+              (fed_twice b.by b.bit b.sink b.below
+              (subst (λ (c : ConnectionRecord). Feeds c b.sink b.bit) (g.connections_are.done b.by b.below) b.feeds)
+              (subst (λ (c : ConnectionRecord). Feeds c b.sink b.bit) joined_is b.again))
+              low
+            where
+              low : (c : Cause) → Wrong m s q i c → number_of c < 12 → ⊥
+              low c (no_pin y) n = not_both _ _ (near_of m s q i None y) nr
+              low c (bad_bits p y z) n = not_both _ _ (near_of m s q i (Some p) y ∙ z) nr
+              low c (bad_end p y z) n = not_both _ _ (ap (far_end m s q i) (same_near p y) ∙ z) (sym fr)
+              low c (other_width p h y z w) n = right_width p h y z w
+                where
+                  right_width : (p : Pin) (h : Far) → near m s q i ≡ Some p → far_end m s q i p ≡ Some h → (h.width ≡ p.width → ⊥) → ⊥
+                  right_width p h y z w =
+                      let u = same_near p y in
+                      let v : f ≡ h = one_answer _ _ _ (sym fr) (ap (far_end m s q i) u ∙ z) in
+                      w (ap (λ a. a.width) (sym v) ∙ e ∙ ap (λ a. a.width) u)
+              low c (fed_twice j b k u y z) n = omega arith
 
-        pub stage_on : f.width ≡ x.width → (FedBefore cs i joined_here → ⊥) → Stage m s pins parts (set cs i joined_here) (here.part + 1) (i + 1)
-        stage_on e once = record {
-          records = q;
-          read = g.read;
-          pins_are = g.pins_are;
-          parts_are = g.parts_are;
-          connections_are = upto_more (joined_connection m s q) (connection q) blank_connection (length q.connections) i cs joined_here g.connections_are below joined_is;
-          known = g.known;
-          met = λ j h. ⊎_elim (λ (a : j < i). g.met j a) (λ (a : i ≤ j). let at : i ≡ j = omega arith in subst (Met m s q) at (met_here e)) (cases_lt j i);
-          once = λ j h. ⊎_elim (λ (a : j < i). g.once j a) (λ (a : i ≤ j). let at : i ≡ j = omega arith in subst (Once m s q) at once_here) (cases_lt j i);
-        }
-          where
-            once_here : Once m s q i
-            once_here j b k h u v = once (record {
-              by = j;
-              below = h;
-              sink = k;
-              bit = b;
-              feeds = subst (λ (c : ConnectionRecord). Feeds c k b) (sym (g.connections_are.done j h)) u;
-              again = subst (λ (c : ConnectionRecord). Feeds c k b) (sym joined_is) v;
-            })
+          pub stage_on : f.width ≡ x.width → (FedBefore cs i joined_here → ⊥) → Stage m s pins parts (set cs i joined_here) (here.part + 1) (i + 1)
+          stage_on e once = record {
+            records = q;
+            read = g.read;
+            pins_are = g.pins_are;
+            parts_are = g.parts_are;
+            connections_are = upto_more (joined_connection m s q) (connection q) blank_connection (length q.connections) i cs joined_here g.connections_are below joined_is;
+            known = g.known;
+            met = λ j h. ⊎_elim (λ (a : j < i). g.met j a) (λ (a : i ≤ j). let at : i ≡ j = omega arith in subst (Met m s q) at (met_here e)) (cases_lt j i);
+            once = λ j h. ⊎_elim (λ (a : j < i). g.once j a) (λ (a : i ≤ j). let at : i ≡ j = omega arith in subst (Once m s q) at once_here) (cases_lt j i);
+          }
+            where
+              once_here : Once m s q i
+              once_here j b k h u v = once (record {
+                by = j;
+                below = h;
+                sink = k;
+                bit = b;
+                feeds = subst (λ (c : ConnectionRecord). Feeds c k b) (sym (g.connections_are.done j h)) u;
+                again = subst (λ (c : ConnectionRecord). Feeds c k b) (sym joined_is) v;
+              })

@@ -1,7 +1,7 @@
 -- What connections feed.
 use Rattle.std.specs.Prelude.{◌≡◌, ℕ, ◌+◌, ◌<◌, ◌≤◌, List, length, Some, None, Option, MatchOption, slice_index_or}
-use Rattle.kit.specs.declared.shape.Side.{Side}
-use Rattle.kit.specs.declared.shape.Side.TheVariants.{In, Out}
+use Rattle.catalogue.specs.declared.records.Side.{Side}
+use Rattle.catalogue.specs.declared.records.Side.TheVariants.{In, Out}
 use Rattle.catalogue.specs.declared.records.Target.{Target}
 use Rattle.catalogue.specs.declared.records.Target.TheVariants.{Constant, Input, Output, Internal}
 use Rattle.catalogue.specs.declared.records.ConnectionRecord.{ConnectionRecord}
@@ -12,15 +12,15 @@ use Rattle.joiner.specs.declared.feeds.Feed.{Feed}
 
 -- a part's input is fed by the far end, and a part's output feeds a pin of the chip or an internal pin
 abbrev pub feed_by : ConnectionRecord → Side → Target → Option Feed
-feed_by c In t = Some (record { sink = sink.PartInputs c.part; first = c.joint.near.first; width = c.joint.near.width })
+feed_by c In t = Some (record { sink = sink.PartInputs c.part; first = c.joint.offset; width = c.joint.width })
 feed_by c Out (Constant b) = None
 feed_by c Out (Input b) = None
-feed_by c Out (Output b) = Some (record { sink = sink.ChipOutputs c.entry; first = b; width = c.joint.near.width })
-feed_by c Out (Internal h) = Some (record { sink = sink.Internal h; first = 0; width = c.joint.near.width })
+feed_by c Out (Output b) = Some (record { sink = sink.ChipOutputs c.entry; first = b; width = c.joint.width })
+feed_by c Out (Internal h) = Some (record { sink = sink.Internal h; first = 0; width = c.joint.width })
 
 -- what a connection feeds
 abbrev pub feed : ConnectionRecord → Option Feed
-feed c = feed_by c c.joint.near.side c.joint.target
+feed c = feed_by c c.joint.side c.joint.target
 
 -- the bit b of the sink k is among these
 abbrev pub Covers : Feed → Sink → ℕ → Type 0

@@ -14,6 +14,7 @@ use Rattle.catalogue.specs.declared.records.ConnectionRecord.{ConnectionRecord}
 use Rattle.catalogue.specs.Records.{Records, no_joint}
 use Rattle.wellformed.specs.Places.{part, connection}
 use Rattle.joiner.specs.declared.ends.Far.{Far}
+use Rattle.joiner.specs.Sides.{record_side}
 use Rattle.joiner.specs.Meaning.{piece, near, far_end}
 
 abbrev pub with_piece : PartRecord → Piece → PartRecord
@@ -26,10 +27,13 @@ abbrev pub target_of : Option Far → Target
 target_of None = target.Constant false
 target_of (Some f) = f.target
 
+abbrev pub joint_of : Pin → Target → Joint
+joint_of p t = record { side = record_side p.side; offset = p.first; width = p.width; target = t }
+
 -- these bits, and what stands at the far end of them
 abbrev pub joint_by : (Pin → Option Far) → Option Pin → Joint
 joint_by f None = no_joint
-joint_by f (Some p) = record { near = p; target = target_of (f p) }
+joint_by f (Some p) = joint_of p (target_of (f p))
 
 module _ (m : Model) (s : List ℕ) (r : Records) where
   -- which bits of the part the connection i joins, and to what

@@ -1,5 +1,6 @@
 pub mod Search
 pub mod Slices
+pub mod Sides
 pub mod Meaning
 pub mod Feeding
 pub mod Feeders

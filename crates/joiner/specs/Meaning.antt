@@ -1,5 +1,5 @@
 -- What the names of a bundle's texts mean, with a kit of built-in parts. The records are those that reading gave.
-use Rattle.std.specs.Prelude.{ℕ, Bool, true, false, ◌&&◌, List, length, Some, None, Option, ◌==◌, slice_index_or}
+use Rattle.std.specs.Prelude.{ℕ, Bool, false, ◌&&◌, List, length, Some, None, Option, ◌==◌, slice_index_or}
 use Rattle.std.specs.Option.{unwrap_or, option_or, option_map}
 use Rattle.std.specs.Str.{bytes_eq}
 use Rattle.kit.specs.Models.{Model}
@@ -14,7 +14,6 @@ use Rattle.catalogue.specs.declared.records.FarEnd.{FarEnd}
 use Rattle.catalogue.specs.declared.records.FarEnd.TheVariants as far
 use Rattle.catalogue.specs.declared.records.Piece.{Piece}
 use Rattle.catalogue.specs.declared.records.Piece.TheVariants.{Entry, Kind}
-use Rattle.catalogue.specs.declared.records.Target.{Target}
 use Rattle.catalogue.specs.declared.records.Target.TheVariants as target
 use Rattle.catalogue.specs.declared.records.PinRecord.{PinRecord}
 use Rattle.catalogue.specs.declared.records.ConnectionRecord.{ConnectionRecord}
@@ -24,10 +23,11 @@ use Rattle.wellformed.specs.Places.{part, connection}
 use Rattle.joiner.specs.declared.ends.Far.{Far}
 use Rattle.joiner.specs.Search.{first_below, chained}
 use Rattle.joiner.specs.Slices.{slice_of}
+use Rattle.joiner.specs.Sides.{kit_side}
 
 -- the pin that a record declares
 abbrev pub shape : PinRecord → Pin
-shape p = record { side = p.side; first = p.offset; width = p.width }
+shape p = record { side = kit_side p.side; first = p.offset; width = p.width }
 
 module _ (s : List ℕ) where
   -- the name at a span of the text of the entry e

@@ -1,5 +1,5 @@
 -- What holds of what names are looked up in.
-use Rattle.std.specs.Prelude.{◌≡◌, ℕ, ◌+◌, ◌<◌, ◌≤◌, List, length, get_or, IfSome, Option, ◌≢◌, slice_index_or}
+use Rattle.std.specs.Prelude.{ℕ, ◌+◌, ◌<◌, ◌≤◌, List, length, get_or, IfSome, Option, ◌≢◌, slice_index_or}
 use Rattle.kit.specs.declared.shape.Pin.{Pin}
 use Rattle.bundle.specs.Entries.{Opened}
 use Rattle.bundle.specs.declared.opened.Bundle.{Bundle}

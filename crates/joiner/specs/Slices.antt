@@ -1,5 +1,5 @@
 -- Which bits of a pin a subscript means, as a pin of their own.
-use Rattle.std.specs.Prelude.{ℕ, ◌+◌, ◌-◌, Bool, cond, ◌&&◌, Some, None, Option, nat_le, nat_lt}
+use Rattle.std.specs.Prelude.{ℕ, ◌+◌, ◌-◌, cond, ◌&&◌, Some, None, Option, nat_le, nat_lt}
 use Rattle.kit.specs.declared.shape.Pin.{Pin}
 use Rattle.catalogue.specs.declared.records.Subscript.{Subscript}
 use Rattle.catalogue.specs.declared.records.Subscript.TheVariants.{All, Bit, Range}

@@ -2,8 +2,7 @@
 ghost use Rattle.std.specs.Prelude.{◌≡◌, ℕ, ◌+◌, ◌<◌, ◌≤◌, length, Decides};
 ghost use Rattle.joiner.specs.Feeding.{Meet, FedIn, OpenIn, feed};
 
-use catalogue::{ConnectionRecord, Target};
-use kit::Side;
+use catalogue::{ConnectionRecord, Joint, Side, Target};
 
 /// What is fed: the inputs of a part, the outputs of an entry's chip, or the internal pin that a
 /// connection is the first to mention.
@@ -40,12 +39,16 @@ impl Feed {
 pub(crate) fn feed_of(connection: &ConnectionRecord) -> Option<Feed>
     ensures { result ≡ feed connection.now }
 {
-    let near = connection.joint.near;
-    let width = near.width;
-    match (near.side, connection.joint.target) {
+    let Joint {
+        side,
+        offset,
+        width,
+        target,
+    } = connection.joint;
+    match (side, target) {
         (Side::In, _) => Some(Feed {
             sink: Sink::PartInputs(connection.part),
-            first: near.first,
+            first: offset,
             width,
         }),
         (Side::Out, Target::Output(first)) => Some(Feed {

@@ -10,7 +10,8 @@ use crate::ends::slice;
 use crate::feeds::{Sink, feed_of, is_fed};
 use crate::join_fault::JoinFault;
 use crate::scope::Scope;
-use catalogue::{ConnectionRecord, Joint, PartRecord};
+use crate::sides::joint_of;
+use catalogue::{ConnectionRecord, PartRecord};
 use fault::Place;
 use kit::Kit;
 
@@ -79,10 +80,7 @@ fn join_connection<K: Kit>(
     if far.width != near.width {
         return Err(JoinFault::WidthsDiffer(place));
     }
-    connection.joint = Joint {
-        near,
-        target: far.target,
-    };
+    connection.joint = joint_of(near, far.target);
     if is_fed_before(parts, connections, from, i, &connection) {
         return Err(JoinFault::FedTwice(place));
     }

@@ -22,6 +22,7 @@ mod joints;
 mod opens;
 mod records;
 mod scope;
+mod sides;
 mod single;
 
 pub use join_fault::JoinFault;

@@ -7,9 +7,9 @@ ghost use Rattle.joiner.specs.Opens.{FirstPlace, OpenAsInput, OpenAsInternal, Op
 
 use crate::feeds::{Feed, Sink, is_open};
 use crate::scope::Scope;
-use catalogue::{ConnectionRecord, FarEnd, PartRecord, Piece, PinRecord, Target};
+use catalogue::{ConnectionRecord, FarEnd, PartRecord, Piece, PinRecord, Side, Target};
 use fault::Place;
-use kit::{Kit, Side};
+use kit::Kit;
 
 /// Whether a bit of a pin, if it is an output, is never fed.
 fn is_open_output(connections: &[ConnectionRecord], pin: &PinRecord) -> bool

@@ -9,6 +9,7 @@ ghost use Rattle.joiner.specs.Scopes.{EntryBelow, FitFound, Open, OtherTexts};
 ghost use Rattle.joiner.specs.Stages.{ConnectionsUpto};
 
 use crate::ends::{Far, chip_end, constant_end, internal_end, slice};
+use crate::sides::shape;
 use bundle::Bundle;
 use catalogue::{ConnectionRecord, FarEnd, Piece, PinRecord, Span, Subscript};
 use kit::{Kit, Pin};
@@ -80,11 +81,7 @@ impl<'a, K: Kit> Scope<'a, K> {
         let source = self.source(chip);
         for pin in self.pins {
             if declares(source, chip, name, pin) {
-                return Some(Pin {
-                    side: pin.side,
-                    first: pin.offset,
-                    width: pin.width,
-                });
+                return Some(shape(pin));
             }
         }
         None
@@ -152,7 +149,7 @@ impl<'a, K: Kit> Scope<'a, K> {
         }
         let mention = self.first_mention(connections, chip, name, from, i);
         let width = if mention < i {
-            connections[mention].joint.near.width
+            connections[mention].joint.width
         } else {
             near.width
         };

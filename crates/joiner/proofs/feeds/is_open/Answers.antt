@@ -1,4 +1,4 @@
-use Rattle.std.proofs.Common.{refl, arith}
+use Rattle.std.proofs.Common.{arith}
 use Rattle.std.proofs.lemmas.Bool.{false≢true}
 use Rattle.joiner.proofs.Feeding.{one_bit}
 use Rattle.joiner.proofs.feeds.is_open.Goals as goal

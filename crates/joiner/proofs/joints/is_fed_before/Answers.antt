@@ -9,11 +9,11 @@ returns-in-Some c =
     let ps = c.args.parts.now in
     let cs = c.args.connections.now in
     let n = c.args.from in
-    let from = c.first-feeder.result in
+    let from = c.first_feeder.result in
     let bits = c.in-Some.bits in
     let is = c.in-Some.ensures in
     let fed : Feeders ps cs n c.args.i bits.sink = subst (λ (o : Option Feed). IfSome o (λ f. Feeders ps cs n c.args.i f.sink)) (sym is) c.requires.feeders in
-    let upto : from ≤ c.args.i = omega (arith, c.first-feeder.ensures, fed.upto) in (
-      λ e. fed_before cs from c.args.i c.args.connection.now bits c.requires.within is upto (c.is-fed.ensures.0 e),
-      λ h. c.is-fed.ensures.1 (before_fed cs from c.args.i c.args.connection.now bits c.requires.within is upto (λ j b l. fed.none_before j b (omega (arith, c.first-feeder.ensures))) h),
+    let upto : from ≤ c.args.i = omega (arith, c.first_feeder.ensures, fed.upto) in (
+      λ e. fed_before cs from c.args.i c.args.connection.now bits c.requires.within is upto (c.is_fed.ensures.0 e),
+      λ h. c.is_fed.ensures.1 (before_fed cs from c.args.i c.args.connection.now bits c.requires.within is upto (λ j b l. fed.none_before j b (omega (arith, c.first_feeder.ensures))) h),
     )

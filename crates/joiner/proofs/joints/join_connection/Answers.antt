@@ -7,8 +7,8 @@ use Rattle.joiner.proofs.joints.join_connection.Goals as goal
 pub word-name-requires : goal.word-name-requires
 word-name-requires g c = record { opened = c.requires.opened; below = stages.entry_below _ _ _ _ _ _ _ c.requires.stage c.args.i (omega arith) c.requires.within }
 
-pub offset-bounds-parts-connection : goal.offset-bounds-parts-connection
-offset-bounds-parts-connection g c =
+pub offset_bounds-parts-connection : goal.offset_bounds-parts-connection
+offset_bounds-parts-connection g c =
     let h : (get_or c.args.connections.now c.args.i blank_connection).part < length c.args.parts.now = stages.part_below _ _ _ _ _ _ _ c.requires.stage c.args.i (omega arith) c.requires.within in
     search rules
 
@@ -26,37 +26,37 @@ returns-in_default-slice g c =
     stages.bad_bits_at (g.K.Kit.model c.args.scope.now.kit.now) _ _ _ _ c.args.i c.requires.within c.requires.stage c.word-name.result.now c.word-name.ensures
     c.in-Some.pin c.in-Some.ensures.is c.in_default-slice.ensures
 
-pub far-end-requires : goal.far-end-requires
-far-end-requires g c = record {
+pub far_end-requires : goal.far_end-requires
+far_end-requires g c = record {
   «open» = stages.open_at _ _ _ _ _ _ _ c.requires.opened c.requires.stage;
   within = c.requires.within;
   below = stages.entry_below _ _ _ _ _ _ _ c.requires.stage c.args.i (omega arith) c.requires.within;
   others = stages.others_at _ _ _ _ _ c.args.i c.requires.within c.requires.stage c.args.from c.requires.others;
 }
 
-pub returns-in_default-far-end : goal.returns-in_default-far-end
-returns-in_default-far-end g c =
+pub returns-in_default-far_end : goal.returns-in_default-far_end
+returns-in_default-far_end g c =
     stages.bad_end_at (g.K.Kit.model c.args.scope.now.kit.now) _ _ _ _ c.args.i c.requires.within c.requires.stage c.word-name.result.now c.word-name.ensures
-    c.in-Some.pin c.in-Some-slice.near c.in-Some.ensures.is c.in-Some-slice.ensures c.in_default-far-end.ensures
+    c.in-Some.pin c.in-Some-slice.near c.in-Some.ensures.is c.in-Some-slice.ensures c.in_default-far_end.ensures
 
 pub returns-then-far-near : goal.returns-then-far-near
 returns-then-far-near g c =
     stages.other_width_at (g.K.Kit.model c.args.scope.now.kit.now) _ _ _ _ c.args.i c.requires.within c.requires.stage c.word-name.result.now c.word-name.ensures
-    c.in-Some.pin c.in-Some-slice.near c.in-Some.ensures.is c.in-Some-slice.ensures c.in-Some-far-end.far c.in-Some-far-end.ensures c.if-far-near.true
+    c.in-Some.pin c.in-Some-slice.near c.in-Some.ensures.is c.in-Some-slice.ensures c.in-Some-far_end.far c.in-Some-far_end.ensures c.if-far-near.true
 
-pub is-fed-before-requires : goal.is-fed-before-requires
-is-fed-before-requires g c = record {
+pub is_fed_before-requires : goal.is_fed_before-requires
+is_fed_before-requires g c = record {
   within = c.requires.within;
   feeders = stages.fed_from_at (g.K.Kit.model c.args.scope.now.kit.now) _ _ _ _ c.args.i c.requires.within c.requires.stage c.word-name.result.now c.word-name.ensures
-      c.in-Some.pin c.in-Some-slice.near c.in-Some.ensures.is c.in-Some-slice.ensures c.in-Some-far-end.far c.in-Some-far-end.ensures c.args.from c.requires.others;
+      c.in-Some.pin c.in-Some-slice.near c.in-Some.ensures.is c.in-Some-slice.ensures c.in-Some-far_end.far c.in-Some-far_end.ensures c.joint_of-connection.result c.joint_of-connection.ensures c.args.from c.requires.others;
 }
 
-pub returns-then-is-fed-before : goal.returns-then-is-fed-before
-returns-then-is-fed-before g c =
+pub returns-then-is_fed_before : goal.returns-then-is_fed_before
+returns-then-is_fed_before g c =
     stages.fed_twice_at (g.K.Kit.model c.args.scope.now.kit.now) _ _ _ _ c.args.i c.requires.within c.requires.stage c.word-name.result.now c.word-name.ensures
-    c.in-Some.pin c.in-Some-slice.near c.in-Some.ensures.is c.in-Some-slice.ensures c.in-Some-far-end.far c.in-Some-far-end.ensures c.if-far-near.false (c.if-is-fed-before.ensures.0 refl)
+    c.in-Some.pin c.in-Some-slice.near c.in-Some.ensures.is c.in-Some-slice.ensures c.in-Some-far_end.far c.in-Some-far_end.ensures c.joint_of-connection.result c.joint_of-connection.ensures c.if-far-near.false (c.if-is_fed_before.ensures.0 refl)
 
 pub returns : goal.returns
 returns g c =
     stages.stage_on (g.K.Kit.model c.args.scope.now.kit.now) _ _ _ _ c.args.i c.requires.within c.requires.stage c.word-name.result.now c.word-name.ensures
-    c.in-Some.pin c.in-Some-slice.near c.in-Some.ensures.is c.in-Some-slice.ensures c.in-Some-far-end.far c.in-Some-far-end.ensures c.if-far-near.false (λ h. false≢true (c.if-is-fed-before.ensures.1 h))
+    c.in-Some.pin c.in-Some-slice.near c.in-Some.ensures.is c.in-Some-slice.ensures c.in-Some-far_end.far c.in-Some-far_end.ensures c.joint_of-connection.result c.joint_of-connection.ensures c.if-far-near.false (λ h. false≢true (c.if-is_fed_before.ensures.1 h))

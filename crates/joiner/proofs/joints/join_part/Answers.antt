@@ -9,8 +9,8 @@ word-requires g c = record { opened = c.requires.opened; below = lines.chip_belo
 pub returns-in_default : goal.returns-in_default
 returns-in_default g c = lines.unknown_at _ _ _ _ _ c.args.p c.requires.within c.requires.stage c.word.result.now c.word.ensures c.in_default.ensures
 
-pub overflow-add-i-end : goal.overflow-add-i-end
-overflow-add-i-end g c =
+pub overflow_add-i-end : goal.overflow_add-i-end
+overflow_add-i-end g c =
     let h : (get_or c.args.parts.now c.args.p blank_part).connections + (get_or c.args.parts.now c.args.p blank_part).count ≤ length c.args.connections.now =
     lines.line_within _ _ _ _ _ c.args.p c.requires.within c.requires.stage in
     search rules
@@ -18,8 +18,8 @@ overflow-add-i-end g c =
 pub loop-i-init : goal.loop-i-init
 loop-i-init g c = lines.stage_in _ _ _ _ _ c.args.p c.requires.within c.requires.stage c.word.result.now c.word.ensures c.in-Some.piece c.in-Some.ensures
 
-pub join-connection-requires : goal.join-connection-requires
-join-connection-requires g c = record {
+pub join_connection-requires : goal.join_connection-requires
+join_connection-requires g c = record {
   opened = c.requires.opened;
   within = lines.next_within _ _ _ c.args.parts.now _ c.args.p c.loop-i.i c.in-Some.piece c.requires.within c.loop-i.invariant c.loop-i.auto.i c.loop-i-test.true;
   stage = lines.next_stage _ _ _ c.args.parts.now _ c.args.p c.loop-i.i c.in-Some.piece c.requires.within c.loop-i.invariant c.loop-i.auto.i c.loop-i-test.true;
@@ -29,8 +29,8 @@ join-connection-requires g c = record {
 pub bounds-connections-i : goal.bounds-connections-i
 bounds-connections-i g c = lines.next_within _ _ _ c.args.parts.now _ c.args.p c.loop-i.i c.in-Some.piece c.requires.within c.loop-i.invariant c.loop-i.auto.i c.loop-i-test.true
 
-pub offset-bounds-connections-i : goal.offset-bounds-connections-i
-offset-bounds-connections-i g c =
+pub offset_bounds-connections-i : goal.offset_bounds-connections-i
+offset_bounds-connections-i g c =
     let h : c.loop-i.i < length c.loop-i.connections = lines.next_within _ _ _ c.args.parts.now _ c.args.p c.loop-i.i c.in-Some.piece c.requires.within c.loop-i.invariant c.loop-i.auto.i c.loop-i-test.true in
     search rules
 

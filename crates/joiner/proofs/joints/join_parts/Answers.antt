@@ -4,27 +4,27 @@ use Rattle.joiner.specs.Stages.{TextFrom}
 use Rattle.joiner.proofs.Texts.{text_at}
 use Rattle.joiner.proofs.joints.join_parts.Goals as goal
 
-pub join-part-requires : goal.join-part-requires
-join-part-requires g c =
+pub join_part-requires : goal.join_part-requires
+join_part-requires g c =
     let l : c.loop-p.p < length c.loop-p.parts = omega (arith, c.loop-p-test.true, c.loop-p.auto.parts) in
     record {
       opened = c.requires.opened;
       within = l;
       stage = c.loop-p.invariant.0;
-      others = text_at _ _ _ _ _ c.loop-p.p l c.loop-p.invariant.0 _ _ c.text-start-from.ensures c.loop-p.invariant.1;
+      others = text_at _ _ _ _ _ c.loop-p.p l c.loop-p.invariant.0 _ _ c.text_start-from.ensures c.loop-p.invariant.1;
     }
 
-pub returns-in_err-join-part : goal.returns-in_err-join-part
-returns-in_err-join-part g c =
-    let p = err_from_is_err_and c.from-residual.result c.from-residual.ensures.1 in
-    rw (p.1, p.2) c.in_err-join-part.ensures
+pub returns-in_err-join_part : goal.returns-in_err-join_part
+returns-in_err-join_part g c =
+    let p = err_from_is_err_and c.from_residual.result c.from_residual.ensures.1 in
+    rw (p.1, p.2) c.in_err-join_part.ensures
 
 pub loop-p-preserved : goal.loop-p-preserved
 loop-p-preserved g c =
     let l : c.loop-p.p < length c.loop-p.parts = omega (arith, c.loop-p-test.true, c.loop-p.auto.parts) in (
-      c.in_ok-join-part.ensures,
+      c.in_ok-join_part.ensures,
       λ z e.
           let is : z ≡ c.loop-p.p = omega arith in
-          subst (λ (k : ℕ). TextFrom c.args.scope.now.bundle.bytes.now c.text-start-from.result k) (sym is)
-          (text_at _ _ _ _ _ c.loop-p.p l c.loop-p.invariant.0 _ _ c.text-start-from.ensures c.loop-p.invariant.1),
+          subst (λ (k : ℕ). TextFrom c.args.scope.now.bundle.bytes.now c.text_start-from.result k) (sym is)
+          (text_at _ _ _ _ _ c.loop-p.p l c.loop-p.invariant.0 _ _ c.text_start-from.ensures c.loop-p.invariant.1),
     )

@@ -10,7 +10,7 @@ returns-in-Some g c =
 pub returns-in_err-find : goal.returns-in_err-find
 returns-in_err-find g c =
     let none = entry_none c.args.self.now.bundle c.requires c.args.name.now c.in_default.ensures.first in
-    c.from-residual.ensures ∙ sym (piece_found (g.K.Kit.model c.args.self.now.kit.now) _ _ _ _ none (sym c.in_err-find.ensures.is))
+    c.from_residual.ensures ∙ sym (piece_found (g.K.Kit.model c.args.self.now.kit.now) _ _ _ _ none (sym c.in_err-find.ensures.is))
 
 pub returns : goal.returns
 returns g c =

@@ -1,5 +1,4 @@
-use Rattle.std.proofs.Common.{◌≡◌, Option, sym, ap, ◌∙◌, subst}
-use Rattle.kit.specs.declared.shape.Pin.{Pin}
+use Rattle.std.proofs.Common.{sym, ap, ◌∙◌, subst}
 use Rattle.joiner.specs.Scopes.{FitFound}
 use Rattle.joiner.specs.Meaning.{pin_of}
 use Rattle.joiner.proofs.Fitting.{declared_fits, kit_fits}
