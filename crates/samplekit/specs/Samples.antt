@@ -3,7 +3,7 @@ use Rattle.std.specs.Prelude.{ℕ, zero, suc, ◌+◌, ◌/◌, ◌%◌, ◌^◌
 use Rattle.std.specs.Str.{bytes_eq}
 use Rattle.kit.specs.Bits.{bit}
 use Rattle.kit.specs.Models.{Model}
-use Rattle.kit.specs.Headers.{Listed, Header, bits, pin_of}
+use Rattle.kit.specs.Headers.{Header, bits, pin_of}
 use Rattle.kit.specs.Atoms.{no_header}
 
 abbrev pub add4 : Header
