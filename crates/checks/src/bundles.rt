@@ -217,9 +217,9 @@ fn entries_are_found(rt: HostRuntime) -> Result<(), Fail> {
     let Some(entry) = bundle.entry(1) else {
         return Err(Fail::new("there is no second entry"));
     };
-    assert!(rt; entry.name == b"BA");
+    assert!(rt; entry.name == b"BA".as_slice());
     assert!(rt; entry.start == 76);
-    assert!(rt; entry.text == b"yyy");
+    assert!(rt; entry.text == b"yyy".as_slice());
     Ok(())
 }
 

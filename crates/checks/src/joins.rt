@@ -236,7 +236,7 @@ fn said_with_the_line(rt: HostRuntime) -> Result<(), Fail> {
     assert!(rt; !report.accepted);
     assert!(rt;
         report.text.as_slice()
-            == b"fault 11 (joining) in A at byte 45, line 5, column 8: the two ends differ in width: join as many bits on both sides\n  Nand(a=a, b=a[0], out=o);\n       ^\n"
+            == b"fault 11 (joining) in A at byte 45, line 5, column 8: the two ends differ in width: join as many bits on both sides\n  Nand(a=a, b=a[0], out=o);\n       ^\n".as_slice()
     );
     Ok(())
 }
@@ -249,7 +249,10 @@ fn said_when_joined(rt: HostRuntime) -> Result<(), Fail> {
     let kit = Pair::new(Atoms, Rom::new(&words));
     let report = check_report(rt.alloc(), &kit, bytes.as_slice())?;
     assert!(rt; report.accepted);
-    assert!(rt; report.text.as_slice() == b"1 chips, 2 pins, 1 parts, 2 connections: all joined\n");
+    assert!(rt;
+        report.text.as_slice()
+            == b"1 chips, 2 pins, 1 parts, 2 connections: all joined\n".as_slice()
+    );
     Ok(())
 }
 

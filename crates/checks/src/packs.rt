@@ -114,7 +114,7 @@ fn reports(rt: HostRuntime) -> Result<(), Fail> {
     let heap = rt.alloc();
     let empty = list(heap, &[0, 0])?;
     assert!(rt; empty.accepted);
-    assert!(rt; empty.text.as_slice() == b"0 texts, 2 bytes\n");
+    assert!(rt; empty.text.as_slice() == b"0 texts, 2 bytes\n".as_slice());
     let broken = list(heap, &[1, 0])?;
     assert!(rt; !broken.accepted);
     let words: &[u8] =
