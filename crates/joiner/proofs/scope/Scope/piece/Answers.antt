@@ -1,4 +1,4 @@
-use Rattle.std.proofs.Common.{sym, refl, ◌∙◌}
+use Rattle.std.proofs.Common.{None, Some, sym, refl, ◌∙◌}
 use Rattle.joiner.proofs.Names.{entry_some, entry_none, piece_found}
 use Rattle.joiner.proofs.scope.Scope.piece.Goals as goal
 
@@ -10,9 +10,9 @@ returns-in-Some g c =
 pub returns-in_err-find : goal.returns-in_err-find
 returns-in_err-find g c =
     let none = entry_none c.args.self.now.bundle c.requires c.args.name.now c.in_default.ensures.first in
-    c.from_residual.ensures ∙ sym (piece_found (g.K.Kit.model c.args.self.now.kit.now) _ _ _ _ none (sym c.in_err-find.ensures.is))
+    c.from_residual.ensures ∙ sym (piece_found (g.K.Kit.model c.args.self.now.kit.now) _ _ None None none (sym c.in_err-find.ensures.is))
 
 pub returns : goal.returns
 returns g c =
     let none = entry_none c.args.self.now.bundle c.requires c.args.name.now c.in_default.ensures.first in
-    sym (piece_found (g.K.Kit.model c.args.self.now.kit.now) _ _ _ _ none (sym c.in_ok-find.ensures.is))
+    sym (piece_found (g.K.Kit.model c.args.self.now.kit.now) _ _ None (Some c.in_ok-find.field-0) none (sym c.in_ok-find.ensures.is))

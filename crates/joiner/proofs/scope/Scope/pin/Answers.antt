@@ -1,6 +1,3 @@
-use Rattle.std.proofs.Common.{sym, ap, ◌∙◌, subst}
-use Rattle.joiner.specs.Scopes.{FitFound}
-use Rattle.joiner.specs.Meaning.{pin_of}
 use Rattle.joiner.proofs.Fitting.{declared_fits, kit_fits}
 use Rattle.joiner.proofs.scope.Scope.pin.Goals as goal
 
@@ -8,14 +5,14 @@ pub returns-in-Entry : goal.returns-in-Entry
 returns-in-Entry g c =
     let t = c.args.self.now in
     record {
-      is = c.declared.ensures ∙ ap (λ x. pin_of (g.K.Kit.model t.kit.now) t.bundle.bytes.now t.pins.now x c.args.name.now) (sym c.in-Entry.is);
-      fits = subst FitFound (sym c.declared.ensures) (declared_fits t.bundle.bytes.now t.pins.now c.in-Entry.chip c.args.name.now c.requires.«open».fits);
+      is = rw c.in-Entry.is c.declared.ensures;
+      fits = rw c.declared.ensures (declared_fits t.bundle.bytes.now t.pins.now c.in-Entry.chip c.args.name.now c.requires.«open».fits);
     }
 
 pub returns-in-Kind : goal.returns-in-Kind
 returns-in-Kind g c =
     let t = c.args.self.now in
     record {
-      is = c.pin.ensures ∙ ap (λ x. pin_of (g.K.Kit.model t.kit.now) t.bundle.bytes.now t.pins.now x c.args.name.now) (sym c.in-Kind.is);
-      fits = subst FitFound (sym c.pin.ensures) (kit_fits (g.K.Kit.model t.kit.now) (g.K.Kit.sound t.kit.now) c.in-Kind.kind c.args.name.now);
+      is = rw c.in-Kind.is c.pin.ensures;
+      fits = rw c.pin.ensures (kit_fits (g.K.Kit.model t.kit.now) (g.K.Kit.sound t.kit.now) c.in-Kind.kind c.args.name.now);
     }
