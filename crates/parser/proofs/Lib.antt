@@ -1,4 +1,3 @@
-pub mod Cuts
 pub mod Effects
 pub mod Rows
 pub mod Keeps

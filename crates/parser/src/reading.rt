@@ -81,9 +81,7 @@ impl<'t> Source<'_, 't> {
     fn bytes_at(self, span: Span) -> &'t [u8]
         ensures { result.now ≡ cut self.entry.bytes.now span }
     {
-        let first = span.first.min(self.bytes.len());
-        let len = span.len.min(self.bytes.len() - first);
-        &self.bytes[first..first + len]
+        span.cut(self.bytes)
     }
 
     /// Whether a pin of the text has the name.
