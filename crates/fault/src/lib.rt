@@ -4,11 +4,10 @@
 //! `Fault` of it with the place kept whole, so that `?` hands it up to the caller.
 #![tactic(auto)]
 
-ghost use Rattle.std.specs.Prelude.{◌≡◌, ◌==◌, Decides};
+ghost use Rattle.std.specs.Prelude.{◌≡◌, Decides};
 ghost use Rattle.fault.specs.Faults.{layer_of, nowhere, number_of};
-ghost use Rattle.std.specs.Cmp.Rules.{comparing};
-ghost use Rattle.std.specs.Ordering.{on};
-ghost use Rattle.std.proofs.Common.{rules};
+
+use std::fmt;
 
 /// The part of the bench that found a fault.
 #[derive(Clone, Copy, Debug, PartialEq, Eq)]
@@ -21,7 +20,7 @@ pub enum Layer {
 }
 
 /// What is at fault. The numbers are those that people and other programs see.
-#[derive(Clone, Copy, Debug)]
+#[derive(Clone, Copy, Debug, PartialEq, Eq)]
 pub enum Cause {
     SmallCatalogue = 1,
     BrokenLayout = 2,
@@ -50,20 +49,14 @@ pub enum Cause {
     TallyFull = 25,
 }
 
-impl PartialEq for Cause {
-    ghost eq = { on number_of ◌==◌ };
-
-    ghost laws = { Prim.search (comparing, rules) };
-
-    fn eq(&self, other: &Cause) -> bool
-        ensures value { result ≡ on number_of ◌==◌ self.now other.now }
-        ensures same { Decides result (self.now ≡ other.now) }
-    {
-        *self as u8 == *other as u8
-    }
-}
-
 impl Cause {
+    /// Whether it is this cause.
+    pub fn is(self, other: Cause) -> bool
+        ensures { Decides result (self ≡ other) }
+    {
+        self == other
+    }
+
     pub fn number(self) -> u8
         ensures { result ≡ number_of self }
     {
@@ -96,6 +89,60 @@ impl Cause {
             | Cause::TrialOpen
             | Cause::TallyFull => Layer::Board,
         }
+    }
+}
+
+impl fmt::Display for Cause {
+    /// What is wrong, in words for a person.
+    fn fmt<W: fmt::Write>(&self, f: &mut fmt::Formatter<W>) -> fmt::Result {
+        f.write_str(match self {
+            Cause::SmallCatalogue => "the catalogue has too few records",
+            Cause::BrokenLayout => "the layout is broken",
+            Cause::TooManyRecords => {
+                "the texts have more pins, parts or connections than the catalogue holds"
+            }
+            Cause::NoToken => "no token begins here, or a comment is not closed",
+            Cause::BrokenGrammar => "the text does not continue like this",
+            Cause::OtherChipName => "the chip is not named as its text is",
+            Cause::BadPin => {
+                "the pin before is declared twice, is not 1 to 16 bits wide, or makes its side wider than 64 bits"
+            }
+            Cause::UnknownPart =>
+                "neither the bundle nor the kit has a part of this name: pack its text too, or mend the name",
+            Cause::NoSuchPartPin => "the part has no such pin: its header has the names",
+            Cause::BadEnd => {
+                "a subscript or a far end is not allowed here: subscripts lie within the pin, an internal pin takes none, a part's input takes an input pin, an internal pin or a constant, and a part's output feeds an output pin or an internal pin"
+            },
+            Cause::WidthsDiffer => "the two ends differ in width: join as many bits on both sides",
+            Cause::FedTwice =>
+                "this feeds a bit that is fed already: leave one of the two connections out",
+            Cause::LeftOpen =>
+                "this is never fed: connect each input bit of a part, each output bit of the chip and each internal pin",
+            Cause::ChipsInRing => "chips hold one another in a ring",
+            Cause::NoSuchTop => "the bundle has no such chip",
+            Cause::TooLarge => "the chip is larger than the board",
+            Cause::Loop => "the chip has a loop",
+            Cause::BlankBoard => "no chip is loaded",
+            Cause::WrongPhase => "the clock is in the other phase",
+            Cause::NoSuchPin => "the chip has no such pin",
+            Cause::ValueTooWide => "the value is wider than the pin",
+            Cause::StaleBoard => "a pin was set and the board is not settled since",
+            Cause::NoTrialOpen => "no trial is open",
+            Cause::TrialOpen => "a trial is open already",
+            Cause::TallyFull => "65535 trials are begun, or 65535 comparisons made in this trial",
+        })
+    }
+}
+
+impl fmt::Display for Layer {
+    fn fmt<W: fmt::Write>(&self, f: &mut fmt::Formatter<W>) -> fmt::Result {
+        f.write_str(match self {
+            Layer::Bundle => "bundle",
+            Layer::Reading => "reading",
+            Layer::Joining => "joining",
+            Layer::Nesting => "nesting",
+            Layer::Board => "board",
+        })
     }
 }
 

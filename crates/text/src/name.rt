@@ -1,5 +1,6 @@
 //! Names: what is one, and how two of them compare.
 ghost use Rattle.std.specs.Prelude.{◌≡◌, ◌≤◌, true, Decides};
+ghost use Rattle.std.specs.Str.{bytes_eq};
 ghost use Rattle.text.specs.Names.{Named, Word};
 ghost use Rattle.text.specs.Orders.{order};
 
@@ -13,12 +14,7 @@ pub const MAX_NAME: usize = 32;
 fn is_word(bytes: &[u8]) -> bool
     ensures { Decides result (Word bytes.now) }
 {
-    for b in bytes {
-        if !b.is_ascii_alphanumeric() {
-            return false;
-        }
-    }
-    true
+    bytes.iter().all(|b| b.is_ascii_alphanumeric())
 }
 
 /// Whether the bytes are a name: a letter and then letters or digits, at most 32 in all, and no
@@ -49,7 +45,8 @@ fn ends_alike(a: &[u8], b: &[u8]) -> bool
 
 /// Whether two names are the same.
 pub fn same(a: &[u8], b: &[u8]) -> bool
-    ensures { Decides result (a.now ≡ b.now) }
+    ensures same { Decides result (a.now ≡ b.now) }
+    ensures value { result ≡ bytes_eq a.now b.now }
 {
     ends_alike(a, b) && matches!(compare(a, b), Ordering::Equal)
 }
