@@ -4,6 +4,7 @@ use Rattle.catalogue.specs.declared.records.PinRecord.{PinRecord}
 use Rattle.catalogue.specs.declared.records.PartRecord.{PartRecord}
 use Rattle.catalogue.specs.declared.records.ConnectionRecord.{ConnectionRecord}
 use Rattle.catalogue.specs.declared.room.Catalogue.{Catalogue}
+use Rattle.catalogue.specs.declared.room.Counts.{Counts}
 use Rattle.catalogue.specs.Records.{Records, blank_pin, blank_part, blank_connection}
 
 -- what the three lent slices hold
@@ -25,22 +26,30 @@ pub record Holds (z : Slices) (r : Records) : Type 0 where
   pub connections : z.connections ≡ r.connections ++ replicate (length z.connections - length r.connections) blank_connection
 
 abbrev pub slices : Catalogue → Slices
-slices c = record { pins = c.pins.now; parts = c.parts.now; connections = c.connections.now }
+slices c = record { pins = c.pins.rows.now; parts = c.parts.rows.now; connections = c.connections.rows.now }
+
+-- how many records are in the catalogue
+abbrev pub counted : Catalogue → Counts
+counted c = record { pins = c.pins.used; parts = c.parts.used; connections = c.connections.used }
+
+-- a catalogue of just enough blank records
+abbrev pub room : Slices
+room = record { pins = replicate 1024 blank_pin; parts = replicate 1024 blank_part; connections = replicate 4096 blank_connection }
 
 -- the catalogue is filled with the records
 pub record Fills (c : Catalogue) (r : Records) : Type 0 where
   pub holds : Holds (slices c) r
-  pub pins : c.used.pins ≡ length r.pins
-  pub parts : c.used.parts ≡ length r.parts
-  pub connections : c.used.connections ≡ length r.connections
+  pub pins : c.pins.used ≡ length r.pins
+  pub parts : c.parts.used ≡ length r.parts
+  pub connections : c.connections.used ≡ length r.connections
 
 -- the same memory is lent to both
 abbrev pub Lent : Catalogue → Catalogue → Type 0
-Lent a b = (b.pins.ghost_name ≡ a.pins.ghost_name) × (b.parts.ghost_name ≡ a.parts.ghost_name) × (b.connections.ghost_name ≡ a.connections.ghost_name)
+Lent a b = (b.pins.rows.ghost_name ≡ a.pins.rows.ghost_name) × (b.parts.rows.ghost_name ≡ a.parts.rows.ghost_name) × (b.connections.rows.ghost_name ≡ a.connections.rows.ghost_name)
 
 -- and as much of it
 abbrev pub Long : Catalogue → Catalogue → Type 0
-Long a b = (length b.pins.now ≡ length a.pins.now) × (length b.parts.now ≡ length a.parts.now) × (length b.connections.now ≡ length a.connections.now)
+Long a b = (length b.pins.rows.now ≡ length a.pins.rows.now) × (length b.parts.rows.now ≡ length a.parts.rows.now) × (length b.connections.rows.now ≡ length a.connections.rows.now)
 
 -- one record more
 abbrev pub with_pin : Records → PinRecord → Records

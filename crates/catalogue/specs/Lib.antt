@@ -1,3 +1,5 @@
 pub mod Cuts
 pub mod Records
+pub mod Shapes
+pub mod Tables
 pub mod Holding

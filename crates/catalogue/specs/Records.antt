@@ -2,8 +2,8 @@
 use Rattle.std.specs.Prelude.{ℕ, ◌+◌, false, List, [], ◌∷◌, ◌++◌, length, Some, None, Option}
 use Rattle.std.specs.Option.{unwrap_or}
 use Rattle.catalogue.specs.declared.records.Span.{Span}
-use Rattle.catalogue.specs.declared.records.Side.{Side}
-use Rattle.catalogue.specs.declared.records.Side.TheVariants as side
+use Rattle.kit.specs.declared.shape.Side.{Side}
+use Rattle.kit.specs.declared.shape.Side.TheVariants as side
 use Rattle.catalogue.specs.declared.records.Subscript.{Subscript}
 use Rattle.catalogue.specs.declared.records.Subscript.TheVariants as subscript
 use Rattle.catalogue.specs.declared.records.FarEnd.{FarEnd}

@@ -1,22 +1,22 @@
 //! Records: a pin, a part line and a connection, each with its place in a text.
 ghost use Rattle.std.specs.Prelude.{◌≡◌};
 ghost use Rattle.catalogue.specs.Cuts.{cut};
+ghost use Rattle.catalogue.specs.Records.{blank_connection, blank_part, blank_pin};
+ghost use Rattle.catalogue.specs.Shapes.{joint_of, shape};
+
+use crate::table::Record;
+use fault::Place;
+use kit::{Pin, Side};
 
 /// Where a name stands in its text: its first byte, and how many bytes it has.
-#[derive(Clone, Copy, Debug, PartialEq)]
+#[derive(Clone, Copy, Debug, PartialEq, Eq)]
 pub struct Span {
     pub first: usize,
     pub len: usize,
 }
 
-#[derive(Clone, Copy, Debug, PartialEq)]
-pub enum Side {
-    In,
-    Out,
-}
-
 /// Which bits of a pin are meant: all of them, `[n]`, or `[n..m]`.
-#[derive(Clone, Copy, Debug, PartialEq)]
+#[derive(Clone, Copy, Debug, PartialEq, Eq)]
 pub enum Subscript {
     All,
     Bit(usize),
@@ -24,7 +24,7 @@ pub enum Subscript {
 }
 
 /// A pin that a chip declares.
-#[derive(Clone, Copy, Debug, PartialEq)]
+#[derive(Clone, Copy, Debug, PartialEq, Eq)]
 pub struct PinRecord {
     pub entry: usize,
     pub name: Span,
@@ -35,14 +35,14 @@ pub struct PinRecord {
 }
 
 /// What a part is: a chip of the bundle, or a kind of the kit.
-#[derive(Clone, Copy, Debug, PartialEq)]
+#[derive(Clone, Copy, Debug, PartialEq, Eq)]
 pub enum Piece {
     Entry(usize),
     Kind(usize),
 }
 
 /// A part line.
-#[derive(Clone, Copy, Debug, PartialEq)]
+#[derive(Clone, Copy, Debug, PartialEq, Eq)]
 pub struct PartRecord {
     pub entry: usize,
     pub name: Span,
@@ -54,7 +54,7 @@ pub struct PartRecord {
 }
 
 /// The far end of a connection as it is written.
-#[derive(Clone, Copy, Debug, PartialEq)]
+#[derive(Clone, Copy, Debug, PartialEq, Eq)]
 pub enum FarEnd {
     Constant(bool),
     Pin(Span, Subscript),
@@ -62,7 +62,7 @@ pub enum FarEnd {
 
 /// What the far end of a connection is: a constant, bits of the chip's inputs or outputs from this
 /// one on, or the internal pin that the connection of this number is the first to mention.
-#[derive(Clone, Copy, Debug, PartialEq)]
+#[derive(Clone, Copy, Debug, PartialEq, Eq)]
 pub enum Target {
     Constant(bool),
     Input(usize),
@@ -71,7 +71,7 @@ pub enum Target {
 }
 
 /// Which bits of the part a connection joins, and to what.
-#[derive(Clone, Copy, Debug, PartialEq)]
+#[derive(Clone, Copy, Debug, PartialEq, Eq)]
 pub struct Joint {
     pub side: Side,
     pub offset: usize,
@@ -80,7 +80,7 @@ pub struct Joint {
 }
 
 /// A connection of a part line.
-#[derive(Clone, Copy, Debug, PartialEq)]
+#[derive(Clone, Copy, Debug, PartialEq, Eq)]
 pub struct ConnectionRecord {
     pub entry: usize,
     pub name: Span,
@@ -95,6 +95,16 @@ pub struct ConnectionRecord {
 impl Span {
     pub const BLANK: Span = Span { first: 0, len: 0 };
 
+    /// Where it begins, in the text of an entry.
+    pub fn place(self, entry: usize) -> Place
+        ensures { result ≡ record { entry = entry; byte = self.first } }
+    {
+        Place {
+            entry,
+            byte: self.first,
+        }
+    }
+
     /// The bytes that stand there, as far as the text has them.
     pub fn cut<'t>(self, text: &'t [u8]) -> &'t [u8]
         ensures { result.now ≡ cut text.now self }
@@ -105,24 +115,16 @@ impl Span {
     }
 }
 
-impl PinRecord {
-    pub const BLANK: PinRecord = PinRecord {
-        entry: 0,
-        name: Span::BLANK,
-        side: Side::In,
-        offset: 0,
-        width: 0,
-    };
-}
+impl From<&PinRecord> for Pin {
+    ghost from_gives = { λ p r. r ≡ shape p.now };
 
-impl PartRecord {
-    pub const BLANK: PartRecord = PartRecord {
-        entry: 0,
-        name: Span::BLANK,
-        connections: 0,
-        count: 0,
-        piece: Piece::Entry(0),
-    };
+    fn from(pin: &PinRecord) -> Pin {
+        Pin {
+            side: pin.side,
+            first: pin.offset,
+            width: pin.width,
+        }
+    }
 }
 
 impl Joint {
@@ -132,10 +134,48 @@ impl Joint {
         width: 0,
         target: Target::Constant(false),
     };
+
+    /// These bits of a part, joined to that.
+    pub fn of(near: Pin, target: Target) -> Joint
+        ensures { result ≡ joint_of near target }
+    {
+        Joint {
+            side: near.side,
+            offset: near.first,
+            width: near.width,
+            target,
+        }
+    }
 }
 
-impl ConnectionRecord {
-    pub const BLANK: ConnectionRecord = ConnectionRecord {
+impl Record for PinRecord {
+    ghost BLANK = { blank_pin };
+
+    const BLANK: PinRecord = PinRecord {
+        entry: 0,
+        name: Span::BLANK,
+        side: Side::In,
+        offset: 0,
+        width: 0,
+    };
+}
+
+impl Record for PartRecord {
+    ghost BLANK = { blank_part };
+
+    const BLANK: PartRecord = PartRecord {
+        entry: 0,
+        name: Span::BLANK,
+        connections: 0,
+        count: 0,
+        piece: Piece::Entry(0),
+    };
+}
+
+impl Record for ConnectionRecord {
+    ghost BLANK = { blank_connection };
+
+    const BLANK: ConnectionRecord = ConnectionRecord {
         entry: 0,
         name: Span::BLANK,
         part: 0,

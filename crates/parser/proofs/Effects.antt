@@ -1,5 +1,5 @@
 -- What each lexeme that goes on makes of what is read.
-use Rattle.std.proofs.Common.{◌≡◌, ℕ, ◌+◌, ◌≤◌, Bool, true, false, cond, List, [], ◌∷◌, ◌++◌, length, get_or, Some, None, codes, sym, refl, ap, ◌∙◌, inl, inr, ⊎_elim, arith}
+use Rattle.std.proofs.Common.{◌≡◌, ℕ, ◌+◌, ◌≤◌, Bool, true, false, cond, List, [], ◌∷◌, ◌++◌, length, get_or, Some, None, Option, codes, sym, refl, ap, ◌∙◌, inl, inr, ⊎_elim, arith}
 use Rattle.std.specs.Str.{bytes_eq}
 use Rattle.std.proofs.lemmas.Slice.Eq.{bytes_eq-Decides}
 use Rattle.std.proofs.lemmas.Bool.{cond_both}
@@ -10,7 +10,7 @@ use Rattle.grammar.specs.Tree as tree
 use Rattle.grammar.specs.Tree.{Name, items, Pin, Subscript, all, bit, range, Connection}
 use Rattle.grammar.specs.Progress.{Side, ins, outs, Line, End, near, far, State, start, chip, called, opened, pin, pin_named, width_open, width_read, pin_wide, ins_read, headed, parts, first_line, next_line, part_named, connection, end_named, sub_open, sub_low, sub_dots, sub_high, end_read, equals, constant_read, closed, done, Next, go, stop, wanted, pins_read, after_pin, with_connection, part_of, after_connection, after_end, follow}
 use Rattle.catalogue.specs.declared.records.Span.{Span}
-use Rattle.catalogue.specs.declared.records.Side as code
+use Rattle.kit.specs.declared.shape.Side as code
 use Rattle.catalogue.specs.declared.records.FarEnd.{FarEnd}
 use Rattle.catalogue.specs.Records.{Records, span, width_of, far_of}
 use Rattle.progress.specs.declared.state.Near.{Near}
@@ -179,15 +179,15 @@ pub record ConnectionEnds (st : State) (w : Lexeme) (to : State) (p : Span) (f :
   pub free : Free st w
 
 -- what the lexeme w makes of what is read, where it says this to the catalogue
-abbrev pub Effect : State → Lexeme → State → Event → Type 0
-Effect st w to event.Quiet = (view to ≡ view st) × Free st w
-Effect st w to event.ChipNamed = Called st w to
-Effect st w to event.SideBegun = Turns st w to
-Effect st w to event.PinBegun = PinBegins st w to
-Effect st w to event.PartBegun = PartBegins st w to
-Effect st w to event.ConnectionBegun = ConnectionBegins st w to
-Effect st w to (event.PinEnded d n m) = PinEnds st w to d n m
-Effect st w to (event.ConnectionEnded p f g last) = ConnectionEnds st w to p f g last
+abbrev pub Effect : State → Lexeme → State → Option Event → Type 0
+Effect st w to None = (view to ≡ view st) × Free st w
+Effect st w to (Some event.ChipNamed) = Called st w to
+Effect st w to (Some event.SideBegun) = Turns st w to
+Effect st w to (Some event.PinBegun) = PinBegins st w to
+Effect st w to (Some event.PartBegun) = PartBegins st w to
+Effect st w to (Some event.ConnectionBegun) = ConnectionBegins st w to
+Effect st w to (Some (event.PinEnded d n m)) = PinEnds st w to d n m
+Effect st w to (Some (event.ConnectionEnded p f g last)) = ConnectionEnds st w to p f g last
 
 abbrev pub Outcome : State → Lexeme → Next → Type 0
 Outcome st w (go to) = Effect st w to (event_of (shape st) (shape to)) × Sound to

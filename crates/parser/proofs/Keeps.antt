@@ -1,8 +1,8 @@
 -- What a reader keeps from token to token.
 use Rattle.std.proofs.Common.{◌≡◌, ℕ, ◌+◌, ◌-◌, ◌<◌, List, [], ◌∷◌, ◌++◌, map, length, get_or, replicate, sym, refl, ap, ◌∙◌, subst, arith}
 use Rattle.std.proofs.lemmas.List.{append-nil, append_assoc, length-map, map-append, map_push, get_or-map, get_or_append_left, get_or-append-add}
-use Rattle.catalogue.specs.declared.records.Side.{Side}
-use Rattle.catalogue.specs.declared.records.Side.TheVariants.{In}
+use Rattle.kit.specs.declared.shape.Side.{Side}
+use Rattle.kit.specs.declared.shape.Side.TheVariants.{In}
 use Rattle.catalogue.specs.declared.records.Piece.TheVariants.{Entry}
 use Rattle.catalogue.specs.declared.records.PinRecord.{PinRecord}
 use Rattle.catalogue.specs.declared.records.PartRecord.{PartRecord}
@@ -19,7 +19,8 @@ use Rattle.parser.specs.Flaws as flaws
 use Rattle.parser.specs.Flaws.{connected, BadPin}
 use Rattle.parser.specs.Views.{View, view_pins, pin_records, so_far, side_view, header_view, line_view}
 use Rattle.parser.specs.Keeping as keeping
-use Rattle.parser.specs.Keeping.{cut, Stand, BadRecord, Kept}
+use Rattle.catalogue.specs.Cuts.{cut}
+use Rattle.parser.specs.Keeping.{Stand, BadRecord, Kept}
 use Rattle.parser.proofs.Effects.{turned, naming, pinned, lining, joining}
 use Rattle.parser.proofs.Rows.{pin_record, part_record, bits_push, connected_push, record_names, count_pins, count_parts, count_connections, turned_records, pinned_records, joined_records, lined_records}
 
@@ -41,13 +42,13 @@ module _ (s : List ℕ) where
 module _ (t : Source) (r : Records) where
   -- how many records there are
   module _ (v : View) (c : Catalogue) (f : Fills c (so_far r t.entry v)) where
-    pub used_pins : c.used.pins ≡ length r.pins + length (view_pins v)
+    pub used_pins : c.pins.used ≡ length r.pins + length (view_pins v)
     used_pins = f.pins ∙ count_pins t.entry r v
 
-    pub used_parts : c.used.parts ≡ length r.parts + length v.lines
+    pub used_parts : c.parts.used ≡ length r.parts + length v.lines
     used_parts = f.parts ∙ count_parts t.entry r v
 
-    pub used_connections : c.used.connections ≡ length r.connections + (connected v.lines + length v.row)
+    pub used_connections : c.connections.used ≡ length r.connections + (connected v.lines + length v.row)
     used_connections = f.connections ∙ count_connections t.entry r v
 
   module _ (v : View) (c : Catalogue) (bits line : ℕ) (k : Kept t r v c bits line) where
@@ -110,15 +111,15 @@ module _ (t : Source) (r : Records) where
     }
 
     -- the records of the text have the names of its pins
-    name_at : (i : ℕ) (p : Pin) → i < length (view_pins v) → (get_or c.pins.now (t.pins + i) blank_pin).name ≡ span (get_or (view_pins v) i p).name
+    name_at : (i : ℕ) (p : Pin) → i < length (view_pins v) → (get_or c.pins.rows.now (t.pins + i) blank_pin).name ≡ span (get_or (view_pins v) i p).name
     name_at i p l =
         let rs = pin_records t.entry v in
-        let zs = replicate (length c.pins.now - length (r.pins ++ rs)) blank_pin in
+        let zs = replicate (length c.pins.rows.now - length (r.pins ++ rs)) blank_pin in
         let below : length r.pins + i < length (r.pins ++ rs) = omega (arith, count_pins t.entry r v) in
         let names = record_names t.entry v in
         let long : i < length rs = omega (arith, ap length names, length-map rs (λ q. q.name), length-map (view_pins v) (λ q. span q.name)) in
         ap (λ q. q.name)
-        (ap (λ n. get_or c.pins.now (n + i) blank_pin) k.starts
+        (ap (λ n. get_or c.pins.rows.now (n + i) blank_pin) k.starts
         ∙ ap (λ z. get_or z (length r.pins + i) blank_pin) k.fills.holds.pins
         ∙ get_or_append_left (r.pins ++ rs) zs blank_pin (length r.pins + i) below
         ∙ get_or-append-add r.pins rs i blank_pin)
@@ -126,7 +127,7 @@ module _ (t : Source) (r : Records) where
         ∙ ap (λ x. get_or x i (span p.name)) names
         ∙ get_or-map (λ q. span q.name) (view_pins v) i p (span p.name) l
 
-    bytes_at : (i : ℕ) (p : Pin) → i < length (view_pins v) → (get_or (view_pins v) i p).name.bytes ≡ cut t.bytes.now (get_or c.pins.now (t.pins + i) blank_pin).name
+    bytes_at : (i : ℕ) (p : Pin) → i < length (view_pins v) → (get_or (view_pins v) i p).name.bytes ≡ cut t.bytes.now (get_or c.pins.rows.now (t.pins + i) blank_pin).name
     bytes_at i p l =
         let ns = map (λ q. q.name) (view_pins v) in
         let is : get_or ns i p.name ≡ (get_or (view_pins v) i p).name = get_or-map (λ q. q.name) (view_pins v) i p p.name l in
@@ -148,7 +149,7 @@ module _ (t : Source) (r : Records) where
         let i = h.at - t.pins in
         let l : i < length (view_pins v) = omega (arith, h.after, h.below, used_pins v c k.fills, k.starts) in
         let at : t.pins + i ≡ h.at = omega (arith, h.after) in
-        flaws.twice i l (bytes_at v c bits line k i p l ∙ ap (λ n. cut t.bytes.now (get_or c.pins.now n blank_pin).name) at ∙ h.same ∙ sym here)
+        flaws.twice i l (bytes_at v c bits line k i p l ∙ ap (λ n. cut t.bytes.now (get_or c.pins.rows.now n blank_pin).name) at ∙ h.same ∙ sym here)
     bad_at (keeping.none h) = flaws.none h
     bad_at (keeping.wide h) = flaws.wide h
     bad_at (keeping.full h) = flaws.full (omega (arith, k.wide))
@@ -192,7 +193,7 @@ module _ (t : Source) (r : Records) where
 
   -- a connection is complete, and a part line
   module _ (l : Line) (e : Connection) (c z : Catalogue) (g : Long c z) (bits line : ℕ) where
-    pub joined_kept : Kept t r (line_view l 1) c bits line → Fills z (holding.with_connection (so_far r t.entry (line_view l 1)) (connection_record t.entry c.used.parts e)) → Kept t r (line_view (with_connection l e) 0) z bits line
+    pub joined_kept : Kept t r (line_view l 1) c bits line → Fills z (holding.with_connection (so_far r t.entry (line_view l 1)) (connection_record t.entry c.parts.used e)) → Kept t r (line_view (with_connection l e) 0) z bits line
     joined_kept k f = record {
       enough = enough_stays c z k.enough g;
       fills = subst (Fills z)
@@ -209,13 +210,13 @@ module _ (t : Source) (r : Records) where
 
     pub lined_kept :
         Kept t r (line_view (with_connection l e) 0) c bits line →
-        Fills z (holding.with_part (so_far r t.entry (line_view (with_connection l e) 0)) (record { entry = t.entry; name = span l.name; connections = line; count = c.used.connections - line; piece = Entry 0 })) →
-        Kept t r (header_view l.header (l.before ++ part_of l e ∷ []) 0 [] 0) z bits c.used.connections
+        Fills z (holding.with_part (so_far r t.entry (line_view (with_connection l e) 0)) (record { entry = t.entry; name = span l.name; connections = line; count = c.connections.used - line; piece = Entry 0 })) →
+        Kept t r (header_view l.header (l.before ++ part_of l e ∷ []) 0 [] 0) z bits c.connections.used
     lined_kept k f =
         let w = line_view (with_connection l e) 0 in
         let used = used_connections w c k.fills in
-        let count : c.used.connections - line ≡ length (l.connections ++ e ∷ []) = omega (arith, used, k.joined) in
-        let is : ◌≡◌ {A = PartRecord} (record { entry = t.entry; name = span l.name; connections = line; count = c.used.connections - line; piece = Entry 0 }) (part_record t.entry (length r.connections + connected l.before) (part_of l e)) =
+        let count : c.connections.used - line ≡ length (l.connections ++ e ∷ []) = omega (arith, used, k.joined) in
+        let is : ◌≡◌ {A = PartRecord} (record { entry = t.entry; name = span l.name; connections = line; count = c.connections.used - line; piece = Entry 0 }) (part_record t.entry (length r.connections + connected l.before) (part_of l e)) =
         λ i. record { entry = t.entry; name = span l.name; connections = k.joined i; count = count i; piece = Entry 0 } in
         record {
           enough = enough_stays c z k.enough g;

@@ -1,3 +1,4 @@
+pub mod Pins
 pub mod Effects
 pub mod Rows
 pub mod Keeps

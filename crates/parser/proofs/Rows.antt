@@ -1,8 +1,8 @@
 -- The records of what is complete, with one pin, connection or part line more.
 use Rattle.std.proofs.Common.{◌≡◌, ℕ, suc, ◌+◌, List, [], ◌∷◌, ◌++◌, map, length, Some, None, Option, sym, refl, ap, ◌∙◌, add-zero, add_assoc, zero-add, arith}
 use Rattle.std.proofs.lemmas.List.{append-nil, append_assoc, length-append, map-append}
-use Rattle.catalogue.specs.declared.records.Side.{Side}
-use Rattle.catalogue.specs.declared.records.Side.TheVariants.{In, Out}
+use Rattle.kit.specs.declared.shape.Side.{Side}
+use Rattle.kit.specs.declared.shape.Side.TheVariants.{In, Out}
 use Rattle.catalogue.specs.declared.records.Piece.TheVariants.{Entry}
 use Rattle.catalogue.specs.declared.records.PinRecord.{PinRecord}
 use Rattle.catalogue.specs.declared.records.PartRecord.{PartRecord}

@@ -1,5 +1,5 @@
 -- One token more: what a reader knows then, or the fault that it tells.
-use Rattle.std.proofs.Common.{◌≡◌, ℕ, ◌+◌, ◌-◌, ◌<◌, ◌≤◌, Bool, true, false, ◌⊎◌, List, [], ◌∷◌, ◌++◌, length, Some, None, Result, sym, refl, ap, ◌∙◌, subst, inl, inr, ⊎_elim, arith, MatchResult}
+use Rattle.std.proofs.Common.{◌≡◌, ℕ, ◌+◌, ◌-◌, ◌<◌, ◌≤◌, Bool, true, false, ◌⊎◌, List, [], ◌∷◌, ◌++◌, length, Some, None, Option, Result, sym, refl, ap, ◌∙◌, subst, inl, inr, ⊎_elim, arith, MatchResult}
 use Rattle.std.specs.List.{between}
 use Rattle.std.proofs.lemmas.List.{append_assoc, same_from_push}
 use Rattle.std.proofs.lemmas.Result.{MatchResult-weaker}
@@ -17,7 +17,7 @@ use Rattle.grammar.specs.Progress.{start, Next, go, stop, follow, run, with_conn
 use Rattle.grammar.proofs.Runs.{run_push}
 use Rattle.grammar.proofs.Grammar.{viable, refused}
 use Rattle.catalogue.specs.declared.records.Span.{Span}
-use Rattle.catalogue.specs.declared.records.Side.{Side}
+use Rattle.kit.specs.declared.shape.Side.{Side}
 use Rattle.catalogue.specs.declared.records.FarEnd.{FarEnd}
 use Rattle.catalogue.specs.declared.records.Piece.TheVariants.{Entry}
 use Rattle.catalogue.specs.declared.records.PinRecord.{PinRecord}
@@ -41,7 +41,8 @@ use Rattle.parser.specs.Faults.{fault_of}
 use Rattle.parser.specs.Verdicts.{Refused}
 use Rattle.parser.specs.Events.{event_of}
 use Rattle.parser.specs.Views.{View, view, so_far, side_view, line_view}
-use Rattle.parser.specs.Keeping.{cut, BadRecord, Kept, Sound, Known}
+use Rattle.catalogue.specs.Cuts.{cut}
+use Rattle.parser.specs.Keeping.{BadRecord, Kept, Sound, Known}
 use Rattle.parser.proofs.Effects.{Effect, Outcome, effects, joined}
 use Rattle.parser.proofs.Rows.{pin_record}
 use Rattle.parser.proofs.Keeps.{used_pins, used_parts, used_connections, turned_kept, naming_kept, lining_kept, joining_kept, bad_record, bad_pin, pinned_kept, joined_kept, lined_kept}
@@ -145,14 +146,14 @@ module _ (t : Source) (r : Records) (p q : ℕ) (c : Catalogue) (x : Reading) (t
 
   -- the token goes on, and says this to the catalogue
   module _ (next : State) (a : (st : grammar.State) → x.state ≡ shape st → Agrees (Some next) (follow st w)) where
-    record Moved (v : Event) : Type 0 where
+    record Moved (v : Option Event) : Type 0 where
       pub to : grammar.State
       pub goes : follow k.state w ≡ go to
       pub shaped : next ≡ shape to
       pub sound : Sound to
       pub effect : Effect k.state w to v
 
-    moved : (v : Event) → v ≡ event_of x.state next → Moved v
+    moved : (v : Option Event) → v ≡ event_of x.state next → Moved v
     moved v h =
         let m = agrees_go next (follow k.state w) (a k.state k.shaped) in
         let o : Outcome k.state w (go m.0) = subst (Outcome k.state w) m.1 (effects k.state w k.sound) in
@@ -163,7 +164,7 @@ module _ (t : Source) (r : Records) (p q : ℕ) (c : Catalogue) (x : Reading) (t
     abbrev read : Reading
     read = record { state = next; bits = x.bits; line = x.line }
 
-    advance : (v : Event) (m : Moved v) → ((j : Cause) → Flaw t.name.now r k.state w j → ⊥) → (z : Catalogue) (bits line : ℕ) → Kept t r (view m.to) z bits line → Known t r q z (record { state = next; bits = bits; line = line })
+    advance : (v : Option Event) (m : Moved v) → ((j : Cause) → Flaw t.name.now r k.state w j → ⊥) → (z : Catalogue) (bits line : ℕ) → Kept t r (view m.to) z bits line → Known t r q z (record { state = next; bits = bits; line = line })
     advance v m free z bits line h = record {
       lexemes = k.lexemes ++ w ∷ [];
       state = m.to;
@@ -178,33 +179,33 @@ module _ (t : Source) (r : Records) (p q : ℕ) (c : Catalogue) (x : Reading) (t
     kept_at : (u v : View) (z : Catalogue) (bits line : ℕ) → u ≡ v → Kept t r v z bits line → Kept t r u z bits line
     kept_at u v z bits line h = subst (λ y. Kept t r y z bits line) (sym h)
 
-    pub quiet : event.Quiet ≡ event_of x.state next → Known t r q c read
+    pub quiet : None ≡ event_of x.state next → Known t r q c read
     quiet h =
-        let m = moved event.Quiet h in
-        advance event.Quiet m (m.effect.1 t.name.now r) c x.bits x.line (kept_at _ _ c _ _ m.effect.0 k.kept)
+        let m = moved None h in
+        advance None m (m.effect.1 t.name.now r) c x.bits x.line (kept_at _ _ c _ _ m.effect.0 k.kept)
 
-    module _ (h : event.ChipNamed ≡ event_of x.state next) where
+    module _ (h : (Some event.ChipNamed) ≡ event_of x.state next) where
       called : w ≡ name place.byte t.name.now → Known t r q c read
       called s =
-          let m = moved event.ChipNamed h in
+          let m = moved (Some event.ChipNamed) h in
           let f = m.effect in
           let one : name f.at f.bytes ≡ name place.byte t.name.now = sym f.is ∙ s in
           let same : f.bytes ≡ t.name.now = cc in
-          advance event.ChipNamed m (λ j b. f.judged.only t.name.now r j b same) c x.bits x.line (kept_at _ _ c _ _ f.same k.kept)
+          advance (Some event.ChipNamed) m (λ j b. f.judged.only t.name.now r j b same) c x.bits x.line (kept_at _ _ c _ _ f.same k.kept)
 
       other : (w ≡ name place.byte t.name.now → ⊥) → Tells t r (fault.OtherChipName place)
       other s =
-          let m = moved event.ChipNamed h in
+          let m = moved (Some event.ChipNamed) h in
           let f = m.effect in
           wrong (fault.OtherChipName place) cause.OtherChipName refl
           (f.judged.flawed t.name.now r
           (λ b. s (f.is ∙ ap (λ n. name n f.bytes) (name_token place.byte tok f.at f.bytes f.is t.bytes.now q g.stands).0 ∙ ap (name place.byte) b)))
 
-    pub side_begun : event.SideBegun ≡ event_of x.state next → Known t r q c (record { state = next; bits = 0; line = x.line })
+    pub side_begun : (Some event.SideBegun) ≡ event_of x.state next → Known t r q c (record { state = next; bits = 0; line = x.line })
     side_begun h =
-        let m = moved event.SideBegun h in
+        let m = moved (Some event.SideBegun) h in
         let f = m.effect in
-        advance event.SideBegun m (f.free t.name.now r) c 0 x.line
+        advance (Some event.SideBegun) m (f.free t.name.now r) c 0 x.line
         (kept_at _ _ c _ _ f.moved (turned_kept t r (view k.state) c x.bits x.line k.kept f.side f.first f.ins))
 
     -- with room for one record more, and without
@@ -215,7 +216,7 @@ module _ (t : Source) (r : Records) (p q : ℕ) (c : Catalogue) (x : Reading) (t
     Taken y z = MatchResult y (Known t r q z) (Tells t r)
 
     pub chip_named :
-        event.ChipNamed ≡ event_of x.state next → (y : Result Reading ReadFault) →
+        (Some event.ChipNamed) ≡ event_of x.state next → (y : Result Reading ReadFault) →
         MatchResult y (λ z. (z ≡ read) × (w ≡ name place.byte t.name.now)) (λ f. (f ≡ fault.OtherChipName place) × (w ≡ name place.byte t.name.now → ⊥)) →
         Taken y c
     chip_named h y b = MatchResult-weaker y b (λ z a. subst (Known t r q c) (sym a.0) (called h a.1)) (λ f a. subst (Tells t r) (sym a.0) (other h a.1))
@@ -226,39 +227,39 @@ module _ (t : Source) (r : Records) (p q : ℕ) (c : Catalogue) (x : Reading) (t
           MatchResult-weaker y h (λ z o. subst (Known t r q c) (sym o.0) (yes' o.1))
           (λ f o. wrong f cause.TooManyRecords (ap fault_of o.0) (no' o.1))
 
-      pub pin_begun : event.PinBegun ≡ event_of x.state next → used ≡ c.used.pins → Room y used 1024 → Taken y c
+      pub pin_begun : (Some event.PinBegun) ≡ event_of x.state next → used ≡ c.pins.used → Room y used 1024 → Taken y c
       pin_begun h s room =
-          let m = moved event.PinBegun h in
+          let m = moved (Some event.PinBegun) h in
           let f = m.effect in
           let u = used_pins t r (view k.state) c k.kept.fills in
           crowded 1024 room
-          (λ l. advance event.PinBegun m (λ j b. let n = f.judged.only t.name.now r j b in omega (arith, n, u)) c x.bits x.line
+          (λ l. advance (Some event.PinBegun) m (λ j b. let n = f.judged.only t.name.now r j b in omega (arith, n, u)) c x.bits x.line
           (kept_at _ _ c _ _ f.moved
           (naming_kept t r (view k.state) c x.bits x.line k.kept _ (name_stands place.byte tok f.at f.bytes f.is t.bytes.now q g.stands) (omega (arith, u)))))
           (λ l. f.judged.flawed t.name.now r (omega (arith, u)))
 
-      pub part_begun : event.PartBegun ≡ event_of x.state next → used ≡ c.used.parts → Room y used 1024 → Taken y c
+      pub part_begun : (Some event.PartBegun) ≡ event_of x.state next → used ≡ c.parts.used → Room y used 1024 → Taken y c
       part_begun h s room =
-          let m = moved event.PartBegun h in
+          let m = moved (Some event.PartBegun) h in
           let f = m.effect in
           let u = used_parts t r (view k.state) c k.kept.fills in
           crowded 1024 room
-          (λ l. advance event.PartBegun m (λ j b. let n = f.judged.only t.name.now r j b in omega (arith, n, u)) c x.bits x.line
+          (λ l. advance (Some event.PartBegun) m (λ j b. let n = f.judged.only t.name.now r j b in omega (arith, n, u)) c x.bits x.line
           (kept_at _ _ c _ _ f.moved (lining_kept t r (view k.state) c x.bits x.line k.kept (omega (arith, u)))))
           (λ l. f.judged.flawed t.name.now r (omega (arith, u)))
 
-      pub connection_begun : event.ConnectionBegun ≡ event_of x.state next → used ≡ c.used.connections → Room y used 4096 → Taken y c
+      pub connection_begun : (Some event.ConnectionBegun) ≡ event_of x.state next → used ≡ c.connections.used → Room y used 4096 → Taken y c
       connection_begun h s room =
-          let m = moved event.ConnectionBegun h in
+          let m = moved (Some event.ConnectionBegun) h in
           let f = m.effect in
           let u = used_connections t r (view k.state) c k.kept.fills in
           crowded 4096 room
-          (λ l. advance event.ConnectionBegun m (λ j b. let n = f.judged.only t.name.now r j b in omega (arith, n, u)) c x.bits x.line
+          (λ l. advance (Some event.ConnectionBegun) m (λ j b. let n = f.judged.only t.name.now r j b in omega (arith, n, u)) c x.bits x.line
           (kept_at _ _ c _ _ f.moved (joining_kept t r (view k.state) c x.bits x.line k.kept (omega (arith, u)))))
           (λ l. f.judged.flawed t.name.now r (omega (arith, u)))
 
     -- a pin is complete, and put into the catalogue z unless it is bad
-    module _ (d : Side) (n : Span) (m : ℕ) (h : event.PinEnded d n m ≡ event_of x.state next) (y : Result Reading ReadFault) (z : Catalogue) (long_z : Long c z) where
+    module _ (d : Side) (n : Span) (m : ℕ) (h : Some (event.PinEnded d n m) ≡ event_of x.state next) (y : Result Reading ReadFault) (z : Catalogue) (long_z : Long c z) where
       abbrev pin : PinRecord
       pin = record { entry = t.entry; name = n; side = d; offset = x.bits; width = m }
 
@@ -266,61 +267,61 @@ module _ (t : Source) (r : Records) (p q : ℕ) (c : Catalogue) (x : Reading) (t
           MatchResult y
           (λ o. (o ≡ record { state = next; bits = x.bits + m; line = x.line })
           × (BadRecord t.bytes.now t.pins c pin → ⊥)
-          × ((rs : Records) → Fills c rs → c.used.pins < length c.pins.now → Fills z (holding.with_pin rs pin)))
+          × ((rs : Records) → Fills c rs → c.pins.used < length c.pins.rows.now → Fills z (holding.with_pin rs pin)))
           (λ f. (f ≡ fault.BadPin place) × BadRecord t.bytes.now t.pins c pin) →
           Taken y z
       pin_ended told' =
-          let mv = moved (event.PinEnded d n m) h in
+          let mv = moved (Some (event.PinEnded d n m)) h in
           let f = mv.effect in
           let v = side_view f.side f.pins (f.pin.name ∷ []) in
           let kk : Kept t r v c x.bits x.line = subst (λ u. Kept t r u c x.bits x.line) f.was k.kept in
           let is : pin ≡ pin_record t.entry (side_of f.side) x.bits f.pin =
           λ i. record { entry = t.entry; name = f.name i; side = f.on i; offset = x.bits; width = f.width i } in
-          let room : c.used.pins < length c.pins.now = omega (arith, used_pins t r v c kk.fills, kk.pin_room (omega arith), kk.enough.pins) in
+          let room : c.pins.used < length c.pins.rows.now = omega (arith, used_pins t r v c kk.fills, kk.pin_room (omega arith), kk.enough.pins) in
           MatchResult-weaker y told'
           (λ o a.
           subst (Known t r q z) (sym a.0)
-          (advance (event.PinEnded d n m) mv (λ j b. a.1 (bad_pin t r f.side f.pins f.pin c x.bits x.line kk pin is (f.judged.only t.name.now r j b))) z (x.bits + m) x.line
+          (advance (Some (event.PinEnded d n m)) mv (λ j b. a.1 (bad_pin t r f.side f.pins f.pin c x.bits x.line kk pin is (f.judged.only t.name.now r j b))) z (x.bits + m) x.line
           (kept_at _ _ z _ _ f.moved (pinned_kept t r f.side f.pins f.pin c x.bits x.line kk pin is z long_z (a.2 _ kk.fills room)))))
           (λ f' a. wrong f' cause.BadPin (ap fault_of a.0) (f.judged.flawed t.name.now r (bad_record t r f.side f.pins f.pin c x.bits x.line kk pin is a.1)))
 
     -- a connection is complete, and put into the catalogue z
     module _
         (part : Span) (near : Near) (far : FarEnd) (z : Catalogue) (long_z : Long c z)
-        (fills : (rs : Records) → Fills c rs → c.used.connections < length c.connections.now → Fills z (holding.with_connection rs (record { entry = t.entry; name = near.name; part = c.used.parts; bits = near.bits; far = far; joint = no_joint })))
+        (fills : (rs : Records) → Fills c rs → c.connections.used < length c.connections.rows.now → Fills z (holding.with_connection rs (record { entry = t.entry; name = near.name; part = c.parts.used; bits = near.bits; far = far; joint = no_joint })))
       where
-        module _ (last : Bool) (h : event.ConnectionEnded part near far last ≡ event_of x.state next) where
-          abbrev mv : Moved (event.ConnectionEnded part near far last)
-          mv = moved (event.ConnectionEnded part near far last) h
+        module _ (last : Bool) (h : Some (event.ConnectionEnded part near far last) ≡ event_of x.state next) where
+          abbrev mv : Moved (Some (event.ConnectionEnded part near far last))
+          mv = moved (Some (event.ConnectionEnded part near far last)) h
 
           more_kept : Kept t r (line_view (with_connection mv.effect.line mv.effect.connection) 0) z x.bits x.line
           more_kept =
               let f = mv.effect in
               let v = line_view f.line 1 in
               let kk : Kept t r v c x.bits x.line = subst (λ u. Kept t r u c x.bits x.line) f.was k.kept in
-              let room : c.used.connections < length c.connections.now = omega (arith, used_connections t r v c kk.fills, kk.connection_room (omega arith), kk.enough.connections) in
-              let is : ◌≡◌ {A = ConnectionRecord} (record { entry = t.entry; name = near.name; part = c.used.parts; bits = near.bits; far = far; joint = no_joint }) (connection_record t.entry c.used.parts f.connection) =
-              λ i. record { entry = t.entry; name = (f.near i).name; part = c.used.parts; bits = (f.near i).bits; far = f.far i; joint = no_joint } in
+              let room : c.connections.used < length c.connections.rows.now = omega (arith, used_connections t r v c kk.fills, kk.connection_room (omega arith), kk.enough.connections) in
+              let is : ◌≡◌ {A = ConnectionRecord} (record { entry = t.entry; name = near.name; part = c.parts.used; bits = near.bits; far = far; joint = no_joint }) (connection_record t.entry c.parts.used f.connection) =
+              λ i. record { entry = t.entry; name = (f.near i).name; part = c.parts.used; bits = (f.near i).bits; far = f.far i; joint = no_joint } in
               joined_kept t r f.line f.connection c z long_z x.bits x.line kk
               (subst (λ o. Fills z (holding.with_connection (so_far r t.entry v) o)) is (fills _ kk.fills room))
 
           pub connection_ended : last ≡ false → Known t r q z read
           connection_ended b =
               let f = mv.effect in
-              advance (event.ConnectionEnded part near far last) mv (f.free t.name.now r) z x.bits x.line
+              advance (Some (event.ConnectionEnded part near far last)) mv (f.free t.name.now r) z x.bits x.line
               (kept_at _ _ z _ _ (f.moved ∙ ap (joined f.line f.connection) b) more_kept)
 
           -- and the line too, in the catalogue a
           pub line_ended :
-              last ≡ true → (a : Catalogue) → Long z a → (o : Reading) → o ≡ record { state = next; bits = x.bits; line = z.used.connections } →
-              ((rs : Records) → Fills z rs → z.used.parts < length z.parts.now → Fills a (holding.with_part rs (record { entry = t.entry; name = part; connections = x.line; count = z.used.connections - x.line; piece = Entry 0 }))) →
+              last ≡ true → (a : Catalogue) → Long z a → (o : Reading) → o ≡ record { state = next; bits = x.bits; line = z.connections.used } →
+              ((rs : Records) → Fills z rs → z.parts.used < length z.parts.rows.now → Fills a (holding.with_part rs (record { entry = t.entry; name = part; connections = x.line; count = z.connections.used - x.line; piece = Entry 0 }))) →
               Known t r q a o
           line_ended b a long_a o is lines =
               let f = mv.effect in
               let v = line_view (with_connection f.line f.connection) 0 in
               let kk = more_kept in
-              let room : z.used.parts < length z.parts.now = omega (arith, used_parts t r v z kk.fills, kk.part_room (omega arith), kk.enough.parts) in
-              let filled = subst (λ n. Fills a (holding.with_part (so_far r t.entry v) (record { entry = t.entry; name = n; connections = x.line; count = z.used.connections - x.line; piece = Entry 0 }))) f.part (lines _ kk.fills room) in
+              let room : z.parts.used < length z.parts.rows.now = omega (arith, used_parts t r v z kk.fills, kk.part_room (omega arith), kk.enough.parts) in
+              let filled = subst (λ n. Fills a (holding.with_part (so_far r t.entry v) (record { entry = t.entry; name = n; connections = x.line; count = z.connections.used - x.line; piece = Entry 0 }))) f.part (lines _ kk.fills room) in
               subst (Known t r q a) (sym is)
-              (advance (event.ConnectionEnded part near far last) mv (f.free t.name.now r) a x.bits z.used.connections
+              (advance (Some (event.ConnectionEnded part near far last)) mv (f.free t.name.now r) a x.bits z.connections.used
               (kept_at _ _ a _ _ (f.moved ∙ ap (joined f.line f.connection) b) (lined_kept t r f.line f.connection z a long_a x.bits x.line kk filled)))

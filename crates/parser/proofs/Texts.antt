@@ -15,7 +15,7 @@ use Rattle.grammar.proofs.Grammar.{only, unfinished}
 use Rattle.catalogue.specs.declared.room.Catalogue.{Catalogue}
 use Rattle.catalogue.specs.declared.room.Counts.{Counts}
 use Rattle.catalogue.specs.Records.{Records}
-use Rattle.catalogue.specs.Holding.{Enough, slices, Fills, Lent, Long}
+use Rattle.catalogue.specs.Holding.{Enough, counted, slices, Fills, Lent, Long}
 use Rattle.progress.specs.declared.state.State.TheVariants as state
 use Rattle.progress.specs.Shapes.{shape}
 use Rattle.parser.specs.declared.read_fault.ReadFault.TheVariants as fault
@@ -42,7 +42,7 @@ no_lexeme us vs w e = omega (arith, ap length e, length-append us (w ∷ vs))
 
 -- before the first token
 pub started :
-    (t : Source) (c : Catalogue) (m : Lexer) → m.text.now ≡ t.bytes.now → m.entry ≡ t.entry → m.end ≡ 0 → (n : Counts) → n ≡ c.used → t.pins ≡ n.pins →
+    (t : Source) (c : Catalogue) (m : Lexer) → m.text.now ≡ t.bytes.now → m.entry ≡ t.entry → m.end ≡ 0 → (n : Counts) → n ≡ counted c → t.pins ≡ n.pins →
     Between t c c (record { state = state.Start; bits = 0; line = n.connections }) m
 started t c m o e z n u h = record {
   over = o;

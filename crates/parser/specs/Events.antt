@@ -1,5 +1,5 @@
 -- What a token says to the catalogue, by the state that a reader leaves and the one that it reaches.
-use Rattle.std.specs.Prelude.{Bool, true, false, cond}
+use Rattle.std.specs.Prelude.{Bool, true, false, cond, Some, None, Option}
 use Rattle.catalogue.specs.declared.records.Span.{Span}
 use Rattle.catalogue.specs.declared.records.Subscript.{Subscript}
 use Rattle.catalogue.specs.declared.records.Subscript.TheVariants as subscript
@@ -98,36 +98,36 @@ is_done (state.ConstantRead p f b) = false
 is_done state.Closed = false
 is_done state.Done = true
 
--- an end with its subscript, in the part line of p; n is the state behind it
-abbrev pub end_event : Span → End → Subscript → State → Event
-end_event p (end.Near m) s n = event.Quiet
-end_event p (end.Far f m) s n = event.ConnectionEnded p f (far.Pin m s) (closes n)
+-- none where it says nothing. An end with its subscript, in the part line of p; n is the state behind it
+abbrev pub end_event : Span → End → Subscript → State → Option Event
+end_event p (end.Near m) s n = None
+end_event p (end.Far f m) s n = Some (event.ConnectionEnded p f (far.Pin m s) (closes n))
 
 -- where n is the state that is reached
-abbrev pub event_of : State → State → Event
-event_of state.Start n = event.Quiet
-event_of state.Chip n = event.ChipNamed
-event_of state.Called n = event.Quiet
-event_of state.Opened n = event.SideBegun
-event_of (state.Pin d) n = event.PinBegun
-event_of (state.PinNamed d p) n = cond (opens n) event.Quiet (event.PinEnded d p 1)
-event_of (state.WidthOpen d p) n = event.Quiet
-event_of (state.WidthRead d p m) n = event.Quiet
-event_of (state.PinWide d p m) n = event.PinEnded d p m
-event_of state.InsRead n = event.SideBegun
-event_of state.Headed n = event.Quiet
-event_of state.Parts n = event.Quiet
-event_of state.FirstLine n = event.PartBegun
-event_of state.NextLine n = cond (is_done n) event.Quiet event.PartBegun
-event_of (state.PartNamed p) n = event.Quiet
-event_of (state.Connection p) n = event.ConnectionBegun
-event_of (state.EndNamed p e) n = cond (opens n) event.Quiet (end_event p e subscript.All n)
-event_of (state.SubOpen p e) n = event.Quiet
-event_of (state.SubLow p e m) n = event.Quiet
-event_of (state.SubDots p e m) n = event.Quiet
-event_of (state.SubHigh p e m k) n = event.Quiet
+abbrev pub event_of : State → State → Option Event
+event_of state.Start n = None
+event_of state.Chip n = Some event.ChipNamed
+event_of state.Called n = None
+event_of state.Opened n = Some event.SideBegun
+event_of (state.Pin d) n = Some event.PinBegun
+event_of (state.PinNamed d p) n = cond (opens n) None (Some (event.PinEnded d p 1))
+event_of (state.WidthOpen d p) n = None
+event_of (state.WidthRead d p m) n = None
+event_of (state.PinWide d p m) n = Some (event.PinEnded d p m)
+event_of state.InsRead n = Some event.SideBegun
+event_of state.Headed n = None
+event_of state.Parts n = None
+event_of state.FirstLine n = Some event.PartBegun
+event_of state.NextLine n = cond (is_done n) None (Some event.PartBegun)
+event_of (state.PartNamed p) n = None
+event_of (state.Connection p) n = Some event.ConnectionBegun
+event_of (state.EndNamed p e) n = cond (opens n) None (end_event p e subscript.All n)
+event_of (state.SubOpen p e) n = None
+event_of (state.SubLow p e m) n = None
+event_of (state.SubDots p e m) n = None
+event_of (state.SubHigh p e m k) n = None
 event_of (state.EndRead p e s) n = end_event p e s n
-event_of (state.Equals p f) n = event.Quiet
-event_of (state.ConstantRead p f b) n = event.ConnectionEnded p f (far.Constant b) (closes n)
-event_of state.Closed n = event.Quiet
-event_of state.Done n = event.Quiet
+event_of (state.Equals p f) n = None
+event_of (state.ConstantRead p f b) n = Some (event.ConnectionEnded p f (far.Constant b) (closes n))
+event_of state.Closed n = None
+event_of state.Done n = None

@@ -1,6 +1,5 @@
 -- What a reader knows between two tokens.
 use Rattle.std.specs.Prelude.{◌≡◌, ℕ, ◌+◌, ◌<◌, ◌≤◌, List, map, length, slice_index_or}
-use Rattle.std.specs.List.{between}
 use Rattle.lexer.specs.Lexemes.{Lexeme, Lexed}
 use Rattle.grammar.specs.Tree as tree
 use Rattle.grammar.specs.Progress as grammar
@@ -9,6 +8,7 @@ use Rattle.catalogue.specs.declared.records.Span.{Span}
 use Rattle.catalogue.specs.declared.records.PinRecord.{PinRecord}
 use Rattle.catalogue.specs.declared.records.FarEnd.TheVariants as far
 use Rattle.catalogue.specs.declared.room.Catalogue.{Catalogue}
+use Rattle.catalogue.specs.Cuts.{cut}
 use Rattle.catalogue.specs.Records.{Records, span, far_of, blank_pin}
 use Rattle.catalogue.specs.Holding.{Enough, slices, Fills}
 use Rattle.progress.specs.Shapes.{shape, level_of}
@@ -19,20 +19,22 @@ use Rattle.parser.specs.Flaws as flaws
 use Rattle.parser.specs.Reading.{Clean}
 use Rattle.parser.specs.Views.{View, view, view_pins, so_far}
 
--- the bytes at a span of the text
-abbrev pub cut : List ℕ → Span → List ℕ
-cut s n = between n.first (n.first + n.len) s
-
 -- the bytes of the names are those at their spans
 abbrev pub Stand : List ℕ → List tree.Name → Type 0
 Stand s ns = map (λ n. n.bytes) ns ≡ map (λ n. cut s (span n)) ns
+
+-- a pin record has the name
+pub record Among (s : List ℕ) (ps : List PinRecord) (n : List ℕ) : Type 0 where
+  pub at : ℕ
+  pub below : at < length ps
+  pub same : cut s (slice_index_or ps at blank_pin).name ≡ n
 
 -- the name stands in a pin record of the catalogue that has this number or a later one
 pub record Declared (s : List ℕ) (from : ℕ) (c : Catalogue) (n : Span) : Type 0 where
   pub at : ℕ
   pub after : from ≤ at
-  pub below : at < c.used.pins
-  pub same : cut s (slice_index_or c.pins.now at blank_pin).name ≡ cut s n
+  pub below : at < c.pins.used
+  pub same : cut s (slice_index_or c.pins.rows.now at blank_pin).name ≡ cut s n
 
 -- a pin record that may not be put behind those of the text, which have this number on
 pub data BadRecord (s : List ℕ) (from : ℕ) (c : Catalogue) (p : PinRecord) : Type 0 where

@@ -1,7 +1,7 @@
 -- What is read of a chip so far, as the records want it.
 use Rattle.std.specs.Prelude.{ℕ, ◌+◌, List, [], ◌∷◌, ◌++◌, length}
-use Rattle.catalogue.specs.declared.records.Side.{Side}
-use Rattle.catalogue.specs.declared.records.Side.TheVariants.{In, Out}
+use Rattle.kit.specs.declared.shape.Side.{Side}
+use Rattle.kit.specs.declared.shape.Side.TheVariants.{In, Out}
 use Rattle.catalogue.specs.declared.records.PinRecord.{PinRecord}
 use Rattle.catalogue.specs.Records.{Records, side_pins, part_records, connection_records, lines_connections}
 use Rattle.grammar.specs.Tree.{Name, items, Pin, Connection, Part, Header}

@@ -7,8 +7,6 @@ use progress::{End, Near, State};
 
 #[derive(Clone, Copy)]
 pub enum Event {
-    /// Nothing.
-    Quiet,
     /// This is the chip's name.
     ChipNamed,
     /// The pins of a side come next.
@@ -46,58 +44,42 @@ pub fn is_done(state: State) -> bool
 }
 
 /// Behind an end of a connection with its subscript.
-fn behind_end(part: Span, end: End, bits: Subscript, next: State) -> Event
+fn behind_end(part: Span, end: End, bits: Subscript, next: State) -> Option<Event>
     ensures { result ≡ end_event part end bits next }
 {
     match end {
-        End::Near(_) => Event::Quiet,
-        End::Far(near, name) => Event::ConnectionEnded(
+        End::Near(_) => None,
+        End::Far(near, name) => Some(Event::ConnectionEnded(
             part,
             near,
             FarEnd::Pin(name, bits),
             closes(next),
-        ),
+        )),
     }
 }
 
 impl Event {
-    /// What the token says that leads from one state to the next.
-    pub fn of(state: State, next: State) -> Event
+    /// What the token says that leads from one state to the next, if anything.
+    pub fn of(state: State, next: State) -> Option<Event>
         ensures { result ≡ event_of state next }
     {
         match state {
-            State::Chip => Event::ChipNamed,
-            State::Opened | State::InsRead => Event::SideBegun,
-            State::Pin(_) => Event::PinBegun,
-            State::PinNamed(side, name) => {
-                if opens(next) {
-                    Event::Quiet
-                } else {
-                    Event::PinEnded(side, name, 1)
-                }
-            }
-            State::PinWide(side, name, width) => Event::PinEnded(side, name, width),
-            State::FirstLine => Event::PartBegun,
-            State::NextLine => {
-                if is_done(next) {
-                    Event::Quiet
-                } else {
-                    Event::PartBegun
-                }
-            }
-            State::Connection(_) => Event::ConnectionBegun,
-            State::EndNamed(part, end) => {
-                if opens(next) {
-                    Event::Quiet
-                } else {
-                    behind_end(part, end, Subscript::All, next)
-                }
+            State::Chip => Some(Event::ChipNamed),
+            State::Opened | State::InsRead => Some(Event::SideBegun),
+            State::Pin(_) => Some(Event::PinBegun),
+            State::PinNamed(side, name) if !opens(next) => Some(Event::PinEnded(side, name, 1)),
+            State::PinWide(side, name, width) => Some(Event::PinEnded(side, name, width)),
+            State::FirstLine => Some(Event::PartBegun),
+            State::NextLine if !is_done(next) => Some(Event::PartBegun),
+            State::Connection(_) => Some(Event::ConnectionBegun),
+            State::EndNamed(part, end) if !opens(next) => {
+                behind_end(part, end, Subscript::All, next)
             }
             State::EndRead(part, end, bits) => behind_end(part, end, bits, next),
             State::ConstantRead(part, near, level) => {
-                Event::ConnectionEnded(part, near, FarEnd::Constant(level), closes(next))
+                Some(Event::ConnectionEnded(part, near, FarEnd::Constant(level), closes(next)))
             }
-            _ => Event::Quiet,
+            _ => None,
         }
     }
 }

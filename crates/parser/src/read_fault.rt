@@ -33,27 +33,13 @@ impl From<ReadFault> for Fault {
     ghost from_gives = { λ f r. r ≡ fault_of f };
 
     fn from(refusal: ReadFault) -> Fault {
-        match refusal {
-            ReadFault::Lex(inner) => Fault {
-                cause: Cause::NoToken,
-                place: inner.place,
-            },
-            ReadFault::TooManyRecords(place) => Fault {
-                cause: Cause::TooManyRecords,
-                place,
-            },
-            ReadFault::BrokenGrammar(place) => Fault {
-                cause: Cause::BrokenGrammar,
-                place,
-            },
-            ReadFault::OtherChipName(place) => Fault {
-                cause: Cause::OtherChipName,
-                place,
-            },
-            ReadFault::BadPin(place) => Fault {
-                cause: Cause::BadPin,
-                place,
-            },
-        }
+        let (cause, place) = match refusal {
+            ReadFault::Lex(inner) => return Fault::from(inner),
+            ReadFault::TooManyRecords(place) => (Cause::TooManyRecords, place),
+            ReadFault::BrokenGrammar(place) => (Cause::BrokenGrammar, place),
+            ReadFault::OtherChipName(place) => (Cause::OtherChipName, place),
+            ReadFault::BadPin(place) => (Cause::BadPin, place),
+        };
+        Fault { cause, place }
     }
 }

@@ -1,5 +1,6 @@
 //! A text that is being read, token by token.
 ghost use Rattle.std.specs.Prelude.{◌≡◌, ℕ, ◌+◌, ◌-◌, ◌<◌, ◌≤◌, length, Decides, MatchResult, ◌≢◌};
+ghost use Rattle.catalogue.specs.Cuts.{cut};
 ghost use Rattle.catalogue.specs.Records.{Records, no_joint};
 ghost use Rattle.catalogue.specs.Holding.{Fills, Lent, Long, with_connection, with_part, with_pin};
 ghost use Rattle.catalogue.specs.declared.records.Piece.TheVariants.{Entry};
@@ -7,7 +8,7 @@ ghost use Rattle.lexer.specs.Lexemes.{lexeme, name as named};
 ghost use Rattle.lexer.specs.Steps.{Gives};
 ghost use Rattle.parser.specs.declared.read_fault.ReadFault.TheVariants.{BadPin, OtherChipName, TooManyRecords};
 ghost use Rattle.parser.specs.Verdicts.{Refused};
-ghost use Rattle.parser.specs.Keeping.{BadRecord, Declared, Known, cut};
+ghost use Rattle.parser.specs.Keeping.{Among, BadRecord, Declared, Known};
 
 use crate::events::Event;
 use crate::read_fault::ReadFault;
@@ -84,17 +85,21 @@ impl<'t> Source<'_, 't> {
         span.cut(self.bytes)
     }
 
+    /// Whether one of the pins has the name that these bytes are.
+    fn is_among(self, pins: &[PinRecord], name: &[u8]) -> bool
+        ensures { Decides result (Among self.entry.bytes.now pins.now name.now) }
+    {
+        pins.iter()
+            .any(|pin| text::same(self.bytes_at(pin.name), name))
+    }
+
     /// Whether a pin of the text has the name.
     fn is_declared(self, name: Span, catalogue: &Catalogue<'_>) -> bool
         ensures { Decides result (Declared self.entry.bytes.now self.entry.pins catalogue.now name) }
     {
-        let bytes = self.bytes_at(name);
-        for i in self.pins..catalogue.counts().pins {
-            if text::same(self.bytes_at(catalogue.pin(i).name), bytes) {
-                return true;
-            }
-        }
-        false
+        let pins = catalogue.pins.as_slice();
+        let own = &pins[self.pins.min(pins.len())..];
+        self.is_among(own, self.bytes_at(name))
     }
 
     /// Whether a pin may not stand behind those that the text has.
@@ -120,14 +125,14 @@ impl<'t> Source<'_, 't> {
         ensures pin { MatchResult result
             (λ x. (x ≡ record { state = read.state; bits = pin.offset + pin.width; line = read.line })
             × (BadRecord self.entry.bytes.now self.entry.pins catalogue.old pin → ⊥)
-            × ((z : Records) → Fills catalogue.old z → catalogue.old.used.pins < length catalogue.old.pins.now → Fills catalogue.new (with_pin z pin)))
+            × ((z : Records) → Fills catalogue.old z → catalogue.old.pins.used < length catalogue.old.pins.rows.now → Fills catalogue.new (with_pin z pin)))
             (λ f. (f ≡ BadPin place)
             × BadRecord self.entry.bytes.now self.entry.pins catalogue.old pin) }
     {
         if self.is_bad(pin, catalogue) {
             return Err(ReadFault::BadPin(place));
         }
-        catalogue.push_pin(pin);
+        catalogue.pins.push(pin);
         Ok(Reading {
             bits: pin.offset + pin.width,
             ..read
@@ -138,11 +143,11 @@ impl<'t> Source<'_, 't> {
     fn end_connection(self, near: Near, far: FarEnd, catalogue: &mut Catalogue<'_>)
         ensures lent { Lent catalogue.old catalogue.new }
         ensures long { Long catalogue.old catalogue.new }
-        ensures fills { (z : Records) → Fills catalogue.old z → catalogue.old.used.connections < length catalogue.old.connections.now →
-            Fills catalogue.new (with_connection z (record { entry = self.entry.entry; name = near.name; part = catalogue.old.used.parts; bits = near.bits; far = far; joint = no_joint })) }
+        ensures fills { (z : Records) → Fills catalogue.old z → catalogue.old.connections.used < length catalogue.old.connections.rows.now →
+            Fills catalogue.new (with_connection z (record { entry = self.entry.entry; name = near.name; part = catalogue.old.parts.used; bits = near.bits; far = far; joint = no_joint })) }
     {
-        let part = catalogue.counts().parts;
-        catalogue.push_connection(ConnectionRecord {
+        let part = catalogue.parts.used;
+        catalogue.connections.push(ConnectionRecord {
             entry: self.entry,
             name: near.name,
             part,
@@ -156,12 +161,12 @@ impl<'t> Source<'_, 't> {
     fn end_line(self, read: Reading, name: Span, catalogue: &mut Catalogue<'_>) -> Reading
         ensures lent { Lent catalogue.old catalogue.new }
         ensures long { Long catalogue.old catalogue.new }
-        ensures read { result ≡ record { state = read.state; bits = read.bits; line = catalogue.old.used.connections } }
-        ensures fills { (z : Records) → Fills catalogue.old z → catalogue.old.used.parts < length catalogue.old.parts.now →
-            Fills catalogue.new (with_part z (record { entry = self.entry.entry; name = name; connections = read.line; count = catalogue.old.used.connections - read.line; piece = Entry 0 })) }
+        ensures read { result ≡ record { state = read.state; bits = read.bits; line = catalogue.old.connections.used } }
+        ensures fills { (z : Records) → Fills catalogue.old z → catalogue.old.parts.used < length catalogue.old.parts.rows.now →
+            Fills catalogue.new (with_part z (record { entry = self.entry.entry; name = name; connections = read.line; count = catalogue.old.connections.used - read.line; piece = Entry 0 })) }
     {
-        let line = catalogue.counts().connections;
-        catalogue.push_part(PartRecord {
+        let line = catalogue.connections.used;
+        catalogue.parts.push(PartRecord {
             entry: self.entry,
             name,
             connections: read.line,
@@ -194,13 +199,13 @@ impl<'t> Source<'_, 't> {
         };
         let used = catalogue.counts();
         match Event::of(reading.state, next) {
-            Event::Quiet => Ok(read),
-            Event::ChipNamed => with_name(read, token, self.name, place),
-            Event::SideBegun => Ok(Reading { bits: 0, ..read }),
-            Event::PinBegun => with_room(read, used.pins, PINS, place),
-            Event::PartBegun => with_room(read, used.parts, PARTS, place),
-            Event::ConnectionBegun => with_room(read, used.connections, CONNECTIONS, place),
-            Event::PinEnded(side, name, width) => {
+            None => Ok(read),
+            Some(Event::ChipNamed) => with_name(read, token, self.name, place),
+            Some(Event::SideBegun) => Ok(Reading { bits: 0, ..read }),
+            Some(Event::PinBegun) => with_room(read, used.pins, PINS, place),
+            Some(Event::PartBegun) => with_room(read, used.parts, PARTS, place),
+            Some(Event::ConnectionBegun) => with_room(read, used.connections, CONNECTIONS, place),
+            Some(Event::PinEnded(side, name, width)) => {
                 let pin = PinRecord {
                     entry: self.entry,
                     name,
@@ -210,7 +215,7 @@ impl<'t> Source<'_, 't> {
                 };
                 self.end_pin(read, pin, place, catalogue)
             }
-            Event::ConnectionEnded(part, near, far, last) => {
+            Some(Event::ConnectionEnded(part, near, far, last)) => {
                 self.end_connection(near, far, catalogue);
                 Ok(if last {
                     self.end_line(read, part, catalogue)

@@ -3,8 +3,8 @@ use Rattle.std.specs.Prelude.{◌≡◌, ℕ, true, false, Some, None, Option, �
 use Rattle.lexer.specs.declared.tokens.Kind.{Kind}
 use Rattle.lexer.specs.declared.tokens.Kind.TheVariants as kind
 use Rattle.catalogue.specs.declared.records.Span.{Span}
-use Rattle.catalogue.specs.declared.records.Side.{Side}
-use Rattle.catalogue.specs.declared.records.Side.TheVariants as side
+use Rattle.kit.specs.declared.shape.Side.{Side}
+use Rattle.kit.specs.declared.shape.Side.TheVariants as side
 use Rattle.catalogue.specs.declared.records.Subscript.{Subscript}
 use Rattle.catalogue.specs.declared.records.Subscript.TheVariants as subscript
 use Rattle.progress.specs.declared.state.End.{End}

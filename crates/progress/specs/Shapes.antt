@@ -1,8 +1,8 @@
 -- What a reader keeps of a chip that is read in part.
 use Rattle.std.specs.Prelude.{◌≡◌, Bool, false, Some, None, Option}
 use Rattle.catalogue.specs.declared.records.Span.{Span}
-use Rattle.catalogue.specs.declared.records.Side.{Side}
-use Rattle.catalogue.specs.declared.records.Side.TheVariants.{In, Out}
+use Rattle.kit.specs.declared.shape.Side.{Side}
+use Rattle.kit.specs.declared.shape.Side.TheVariants.{In, Out}
 use Rattle.catalogue.specs.Records.{span, bits_of}
 use Rattle.grammar.specs.Tree as tree
 use Rattle.grammar.specs.Progress as grammar

@@ -1,6 +1,6 @@
 use Rattle.std.proofs.Common.{[], ◌∷◌, ◌++◌, replicate, sym, ap, ◌∙◌, arith}
 use Rattle.std.proofs.lemmas.List.{take_more_set, replicate_more, take_all}
-use Rattle.catalogue.proofs.fill_blank.Goals as goal
+use Rattle.catalogue.proofs.table.fill_blank.Goals as goal
 
 pub loop-record-preserved : goal.loop-record-preserved
 loop-record-preserved g c =
