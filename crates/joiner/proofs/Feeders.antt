@@ -5,8 +5,8 @@ use Rattle.kit.specs.Models.{Model}
 use Rattle.kit.specs.declared.shape.Side.{Side}
 use Rattle.kit.specs.declared.shape.Side.TheVariants.{In, Out}
 use Rattle.kit.specs.declared.shape.Pin.{Pin}
-use Rattle.catalogue.specs.declared.records.Side as records
-use Rattle.catalogue.specs.declared.records.Side.TheVariants as side
+use Rattle.kit.specs.declared.shape.Side as records
+use Rattle.kit.specs.declared.shape.Side.TheVariants as side
 use Rattle.catalogue.specs.declared.records.Subscript.{Subscript}
 use Rattle.catalogue.specs.declared.records.Subscript.TheVariants.{All, Bit, Range}
 use Rattle.catalogue.specs.declared.records.FarEnd.{FarEnd}

@@ -1,7 +1,7 @@
 -- What connections feed.
 use Rattle.std.specs.Prelude.{◌≡◌, ℕ, ◌+◌, ◌<◌, ◌≤◌, List, length, Some, None, Option, MatchOption, slice_index_or}
-use Rattle.catalogue.specs.declared.records.Side.{Side}
-use Rattle.catalogue.specs.declared.records.Side.TheVariants.{In, Out}
+use Rattle.kit.specs.declared.shape.Side.{Side}
+use Rattle.kit.specs.declared.shape.Side.TheVariants.{In, Out}
 use Rattle.catalogue.specs.declared.records.Target.{Target}
 use Rattle.catalogue.specs.declared.records.Target.TheVariants.{Constant, Input, Output, Internal}
 use Rattle.catalogue.specs.declared.records.ConnectionRecord.{ConnectionRecord}

@@ -3,7 +3,7 @@ use Rattle.std.specs.Prelude.{◌≡◌, ℕ, ◌+◌, ◌<◌, Bool, cond, ◌&
 use Rattle.std.specs.List.{between}
 use Rattle.fault.specs.declared.Place.{Place}
 use Rattle.kit.specs.Models.{Model}
-use Rattle.catalogue.specs.declared.records.Side.TheVariants.{In, Out}
+use Rattle.kit.specs.declared.shape.Side.TheVariants.{In, Out}
 use Rattle.catalogue.specs.declared.records.Piece.{Piece}
 use Rattle.catalogue.specs.declared.records.Piece.TheVariants.{Entry, Kind}
 use Rattle.catalogue.specs.declared.records.Target.TheVariants as target

@@ -6,7 +6,7 @@ use Rattle.fault.specs.declared.Place.{Place}
 use Rattle.fault.specs.Faults.{number_of}
 use Rattle.kit.specs.Models.{Model, Has}
 use Rattle.kit.specs.declared.shape.Pin.{Pin}
-use Rattle.catalogue.specs.declared.records.Side.TheVariants.{In, Out}
+use Rattle.kit.specs.declared.shape.Side.TheVariants.{In, Out}
 use Rattle.catalogue.specs.declared.records.Piece.{Piece}
 use Rattle.catalogue.specs.declared.records.Piece.TheVariants.{Entry, Kind}
 use Rattle.catalogue.specs.declared.records.Target.TheVariants as target

@@ -1,8 +1,8 @@
 -- The kit's pins and the catalogue's records each have sides of their own.
 use Rattle.kit.specs.declared.shape.Side.{Side}
 use Rattle.kit.specs.declared.shape.Side.TheVariants.{In, Out}
-use Rattle.catalogue.specs.declared.records.Side as records
-use Rattle.catalogue.specs.declared.records.Side.TheVariants as side
+use Rattle.kit.specs.declared.shape.Side as records
+use Rattle.kit.specs.declared.shape.Side.TheVariants as side
 
 abbrev pub kit_side : records.Side → Side
 kit_side side.In = In

@@ -168,10 +168,11 @@ pub record PinEnds (st : State) (w : Lexeme) (to : State) (d : code.Side) (n : S
   pub moved : view to ≡ pinned (side_view side pins (pin.name ∷ [])) pin
   pub judged : Judged st w cause.BadPin (λ x r. BadPin side pins pin)
 
-pub record ConnectionEnds (st : State) (w : Lexeme) (to : State) (p : Span) (f : Near) (g : FarEnd) (last : Bool) : Type 0 where
+pub record ConnectionEnds (st : State) (w : Lexeme) (to : State) (f : Near) (g : FarEnd) (part : Option Span) : Type 0 where
   pub line : Line
   pub connection : Connection
-  pub part : p ≡ span line.name
+  pub last : Bool
+  pub told : part ≡ cond last (Some (span line.name)) None
   pub near : f ≡ near_of connection.near connection.bits
   pub far : g ≡ far_of connection.far
   pub was : view st ≡ line_view line 1
@@ -187,7 +188,7 @@ Effect st w to (Some event.PinBegun) = PinBegins st w to
 Effect st w to (Some event.PartBegun) = PartBegins st w to
 Effect st w to (Some event.ConnectionBegun) = ConnectionBegins st w to
 Effect st w to (Some (event.PinEnded d n m)) = PinEnds st w to d n m
-Effect st w to (Some (event.ConnectionEnded p f g last)) = ConnectionEnds st w to p f g last
+Effect st w to (Some (event.ConnectionEnded f g part)) = ConnectionEnds st w to f g part
 
 abbrev pub Outcome : State → Lexeme → Next → Type 0
 Outcome st w (go to) = Effect st w to (event_of (shape st) (shape to)) × Sound to
@@ -264,8 +265,8 @@ behind_wide (outs c i) ps n m w =
 -- behind a connection
 connection_ends :
     (st : State) (w : Lexeme) (to : State) (l : Line) (c : Connection) (g : FarEnd) (last : Bool) → view st ≡ line_view l 1 → view to ≡ joined l c last →
-    g ≡ far_of c.far → Free st w → ConnectionEnds st w to (span l.name) (near_of c.near c.bits) g last
-connection_ends st w to l c g last h k e f = record { line = l; connection = c; part = refl; near = refl; far = e; was = h; moved = k; free = f }
+    g ≡ far_of c.far → Free st w → ConnectionEnds st w to (near_of c.near c.bits) g (cond last (Some (span l.name)) None)
+connection_ends st w to l c g last h k e f = record { line = l; connection = c; last = last; told = refl; near = refl; far = e; was = h; moved = k; free = f }
 
 behind_end : (e : End) (s : Subscript) (w : List ℕ) → Outcome (end_read e s) (fixed w) (after_end e s w)
 behind_end (near l n) s w = sole (end_read (near l n) s) w (codes "=") (equals l n s) ((refl, λ x r k f. wrong f), tt)

@@ -1,5 +1,5 @@
 -- Whether a pin of a text is declared among those that the catalogue has.
-use Rattle.std.proofs.Common.{◌≡◌, ℕ, ◌+◌, ◌-◌, ◌<◌, ◌≤◌, min, List, length, take, drop, get_or, sym, ap, ◌∙◌, arith}
+use Rattle.std.proofs.Common.{◌≡◌, ℕ, ◌+◌, ◌-◌, ◌<◌, min, List, length, take, drop, get_or, sym, ap, ◌∙◌, arith}
 use Rattle.std.proofs.lemmas.List.{take_rest, get_or-drop, get_or-take, length-take, length-drop}
 use Rattle.catalogue.specs.declared.records.Span.{Span}
 use Rattle.catalogue.specs.declared.records.PinRecord.{PinRecord}

@@ -1,5 +1,5 @@
 -- One token more: what a reader knows then, or the fault that it tells.
-use Rattle.std.proofs.Common.{◌≡◌, ℕ, ◌+◌, ◌-◌, ◌<◌, ◌≤◌, Bool, true, false, ◌⊎◌, List, [], ◌∷◌, ◌++◌, length, Some, None, Option, Result, sym, refl, ap, ◌∙◌, subst, inl, inr, ⊎_elim, arith, MatchResult}
+use Rattle.std.proofs.Common.{◌≡◌, ℕ, ◌+◌, ◌-◌, ◌<◌, ◌≤◌, Bool, true, false, cond, ◌⊎◌, List, [], ◌∷◌, ◌++◌, length, Some, None, Option, Result, sym, refl, ap, ◌∙◌, subst, inl, inr, ⊎_elim, arith, MatchResult}
 use Rattle.std.specs.List.{between}
 use Rattle.std.proofs.lemmas.List.{append_assoc, same_from_push}
 use Rattle.std.proofs.lemmas.Result.{MatchResult-weaker}
@@ -98,6 +98,15 @@ name_token i token.Comma at b e s j h = absurd (clash _ at b e)
 name_token i token.Semicolon at b e s j h = absurd (clash _ at b e)
 name_token i token.Colon at b e s j h = absurd (clash _ at b e)
 name_token i token.Equals at b e s j h = absurd (clash _ at b e)
+
+-- a connection that tells no name goes on, and one that tells a name is the last, of that part
+goes_on : (b : Bool) (n : Span) → ◌≡◌ {A = Option Span} None (cond b (Some n) None) → b ≡ false
+goes_on true n e = absurd (let z : ◌≡◌ {A = ℕ} 0 1 = cc in omega arith)
+goes_on false n e = refl
+
+stops : (b : Bool) (m n : Span) → Some m ≡ cond b (Some n) None → (b ≡ true) × (m ≡ n)
+stops true m n e = (refl, cc)
+stops false m n e = absurd (let z : ◌≡◌ {A = ℕ} 0 1 = cc in omega arith)
 
 name_stands : (i : ℕ) (t : Token) (at : ℕ) (b : List ℕ) → lexeme i t ≡ name at b → (s : List ℕ) (j : ℕ) → Stands s i j t → b ≡ cut s (span (record { first = at; bytes = b }))
 name_stands i t at b e s j h =
@@ -287,12 +296,12 @@ module _ (t : Source) (r : Records) (p q : ℕ) (c : Catalogue) (x : Reading) (t
 
     -- a connection is complete, and put into the catalogue z
     module _
-        (part : Span) (near : Near) (far : FarEnd) (z : Catalogue) (long_z : Long c z)
+        (near : Near) (far : FarEnd) (z : Catalogue) (long_z : Long c z)
         (fills : (rs : Records) → Fills c rs → c.connections.used < length c.connections.rows.now → Fills z (holding.with_connection rs (record { entry = t.entry; name = near.name; part = c.parts.used; bits = near.bits; far = far; joint = no_joint })))
       where
-        module _ (last : Bool) (h : Some (event.ConnectionEnded part near far last) ≡ event_of x.state next) where
-          abbrev mv : Moved (Some (event.ConnectionEnded part near far last))
-          mv = moved (Some (event.ConnectionEnded part near far last)) h
+        module _ (line : Option Span) (h : Some (event.ConnectionEnded near far line) ≡ event_of x.state next) where
+          abbrev mv : Moved (Some (event.ConnectionEnded near far line))
+          mv = moved (Some (event.ConnectionEnded near far line)) h
 
           more_kept : Kept t r (line_view (with_connection mv.effect.line mv.effect.connection) 0) z x.bits x.line
           more_kept =
@@ -305,23 +314,25 @@ module _ (t : Source) (r : Records) (p q : ℕ) (c : Catalogue) (x : Reading) (t
               joined_kept t r f.line f.connection c z long_z x.bits x.line kk
               (subst (λ o. Fills z (holding.with_connection (so_far r t.entry v) o)) is (fills _ kk.fills room))
 
-          pub connection_ended : last ≡ false → Known t r q z read
-          connection_ended b =
+          pub connection_ended : line ≡ None → Known t r q z read
+          connection_ended e =
               let f = mv.effect in
-              advance (Some (event.ConnectionEnded part near far last)) mv (f.free t.name.now r) z x.bits x.line
+              let b = goes_on f.last (span f.line.name) (sym e ∙ f.told) in
+              advance (Some (event.ConnectionEnded near far line)) mv (f.free t.name.now r) z x.bits x.line
               (kept_at _ _ z _ _ (f.moved ∙ ap (joined f.line f.connection) b) more_kept)
 
           -- and the line too, in the catalogue a
           pub line_ended :
-              last ≡ true → (a : Catalogue) → Long z a → (o : Reading) → o ≡ record { state = next; bits = x.bits; line = z.connections.used } →
+              (part : Span) → line ≡ Some part → (a : Catalogue) → Long z a → (o : Reading) → o ≡ record { state = next; bits = x.bits; line = z.connections.used } →
               ((rs : Records) → Fills z rs → z.parts.used < length z.parts.rows.now → Fills a (holding.with_part rs (record { entry = t.entry; name = part; connections = x.line; count = z.connections.used - x.line; piece = Entry 0 }))) →
               Known t r q a o
-          line_ended b a long_a o is lines =
+          line_ended part e a long_a o is lines =
               let f = mv.effect in
+              let b = stops f.last part (span f.line.name) (sym e ∙ f.told) in
               let v = line_view (with_connection f.line f.connection) 0 in
               let kk = more_kept in
               let room : z.parts.used < length z.parts.rows.now = omega (arith, used_parts t r v z kk.fills, kk.part_room (omega arith), kk.enough.parts) in
-              let filled = subst (λ n. Fills a (holding.with_part (so_far r t.entry v) (record { entry = t.entry; name = n; connections = x.line; count = z.connections.used - x.line; piece = Entry 0 }))) f.part (lines _ kk.fills room) in
+              let filled = subst (λ n. Fills a (holding.with_part (so_far r t.entry v) (record { entry = t.entry; name = n; connections = x.line; count = z.connections.used - x.line; piece = Entry 0 }))) b.1 (lines _ kk.fills room) in
               subst (Known t r q a) (sym is)
-              (advance (Some (event.ConnectionEnded part near far last)) mv (f.free t.name.now r) a x.bits z.connections.used
-              (kept_at _ _ a _ _ (f.moved ∙ ap (joined f.line f.connection) b) (lined_kept t r f.line f.connection z a long_a x.bits x.line kk filled)))
+              (advance (Some (event.ConnectionEnded near far line)) mv (f.free t.name.now r) a x.bits z.connections.used
+              (kept_at _ _ a _ _ (f.moved ∙ ap (joined f.line f.connection) b.0) (lined_kept t r f.line f.connection z a long_a x.bits x.line kk filled)))

@@ -98,10 +98,14 @@ is_done (state.ConstantRead p f b) = false
 is_done state.Closed = false
 is_done state.Done = true
 
+-- the part's name, where its line is complete; n is the state that is reached
+abbrev pub line_end : Span → State → Option Span
+line_end p n = cond (closes n) (Some p) None
+
 -- none where it says nothing. An end with its subscript, in the part line of p; n is the state behind it
 abbrev pub end_event : Span → End → Subscript → State → Option Event
 end_event p (end.Near m) s n = None
-end_event p (end.Far f m) s n = Some (event.ConnectionEnded p f (far.Pin m s) (closes n))
+end_event p (end.Far f m) s n = Some (event.ConnectionEnded f (far.Pin m s) (line_end p n))
 
 -- where n is the state that is reached
 abbrev pub event_of : State → State → Option Event
@@ -128,6 +132,6 @@ event_of (state.SubDots p e m) n = None
 event_of (state.SubHigh p e m k) n = None
 event_of (state.EndRead p e s) n = end_event p e s n
 event_of (state.Equals p f) n = None
-event_of (state.ConstantRead p f b) n = Some (event.ConnectionEnded p f (far.Constant b) (closes n))
+event_of (state.ConstantRead p f b) n = Some (event.ConnectionEnded f (far.Constant b) (line_end p n))
 event_of state.Closed n = None
 event_of state.Done n = None

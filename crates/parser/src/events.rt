@@ -1,6 +1,6 @@
 //! What a token says to the catalogue.
 ghost use Rattle.std.specs.Prelude.{◌≡◌};
-ghost use Rattle.parser.specs.Events.{closes, end_event, event_of, is_done, opens};
+ghost use Rattle.parser.specs.Events.{end_event, line_end, event_of, is_done, opens};
 
 use catalogue::{FarEnd, Side, Span, Subscript};
 use progress::{End, Near, State};
@@ -17,9 +17,9 @@ pub enum Event {
     ConnectionBegun,
     /// The pin in front is complete: its side, its name and its width.
     PinEnded(Side, Span, usize),
-    /// The connection in front is complete: the part's name, either end, and whether it is the last
-    /// of its line.
-    ConnectionEnded(Span, Near, FarEnd, bool),
+    /// The connection in front is complete: either end, and the part's name if it is the last of its
+    /// line.
+    ConnectionEnded(Near, FarEnd, Option<Span>),
 }
 
 /// Whether a width or a subscript begins.
@@ -29,11 +29,11 @@ fn opens(state: State) -> bool
     matches!(state, State::WidthOpen(_, _) | State::SubOpen(_, _))
 }
 
-/// Whether the connections of a part line are read.
-fn closes(state: State) -> bool
-    ensures { result ≡ closes state }
+/// The part's name, where the connections of its line are read.
+fn line_end(part: Span, state: State) -> Option<Span>
+    ensures { result ≡ line_end part state }
 {
-    matches!(state, State::Closed)
+    matches!(state, State::Closed).then_some(part)
 }
 
 /// Whether a whole chip is read.
@@ -50,10 +50,9 @@ fn behind_end(part: Span, end: End, bits: Subscript, next: State) -> Option<Even
     match end {
         End::Near(_) => None,
         End::Far(near, name) => Some(Event::ConnectionEnded(
-            part,
             near,
             FarEnd::Pin(name, bits),
-            closes(next),
+            line_end(part, next),
         )),
     }
 }
@@ -77,7 +76,7 @@ impl Event {
             }
             State::EndRead(part, end, bits) => behind_end(part, end, bits, next),
             State::ConstantRead(part, near, level) => {
-                Some(Event::ConnectionEnded(part, near, FarEnd::Constant(level), closes(next)))
+                Some(Event::ConnectionEnded(near, FarEnd::Constant(level), line_end(part, next)))
             }
             _ => None,
         }

@@ -215,12 +215,11 @@ impl<'t> Source<'_, 't> {
                 };
                 self.end_pin(read, pin, place, catalogue)
             }
-            Some(Event::ConnectionEnded(part, near, far, last)) => {
+            Some(Event::ConnectionEnded(near, far, line)) => {
                 self.end_connection(near, far, catalogue);
-                Ok(if last {
-                    self.end_line(read, part, catalogue)
-                } else {
-                    read
+                Ok(match line {
+                    Some(part) => self.end_line(read, part, catalogue),
+                    None => read,
                 })
             }
         }

@@ -21,14 +21,6 @@ pub data ReadUpto (s : List ℕ) : ℕ → Records → Type 0 where
   none : ReadUpto s 0 records.none
   more : (k : ℕ) (r : Records) (c : Chip) → ReadUpto s k r → Reads (name s k) r (text s k) c → ReadUpto s (suc k) (with_chip r k c)
 
--- what is lent, as it is handed over
-abbrev pub made_of : List PinRecord → List PartRecord → List ConnectionRecord → Slices
-made_of ps qs cs = record { pins = ps; parts = qs; connections = cs }
-
--- a catalogue of just enough blank records
-abbrev pub room : Slices
-room = record { pins = replicate 1024 blank_pin; parts = replicate 1024 blank_part; connections = replicate 4096 blank_connection }
-
 -- the catalogue is filled with the records of the first texts of the bundle s
 pub record FilledUpto (s : List ℕ) (k : ℕ) (c : Catalogue) : Type 0 where
   pub records : Records

@@ -6,11 +6,11 @@ ghost use Rattle.fault.specs.Faults.{nowhere};
 ghost use Rattle.bundle.specs.Layout.{Layout};
 ghost use Rattle.bundle.specs.Entries.{Opened};
 ghost use Rattle.catalogue.specs.Records.{none};
-ghost use Rattle.catalogue.specs.Holding.{Enough, Fills, Lent, Long, slices};
-ghost use Rattle.reader.specs.Verdicts.{Accepted, AllRead, FilledUpto, Refusal, Refused, Unread, made_of};
+ghost use Rattle.catalogue.specs.Holding.{Enough, Fills, Lent, Long, counted, slices};
+ghost use Rattle.reader.specs.Verdicts.{Accepted, AllRead, FilledUpto, Refusal, Refused, Unread};
 
 use bundle::Bundle;
-use catalogue::{Catalogue, ConnectionRecord, Counts, PartRecord, PinRecord};
+use catalogue::{Catalogue, Counts};
 use fault::{Cause, Fault};
 use parser::read_text;
 
@@ -56,9 +56,8 @@ fn read_texts(bundle: &Bundle<'_>, catalogue: &mut Catalogue<'_>) -> Result<(), 
     Ok(())
 }
 
-/// Fills a blank catalogue with the records of a bundle's texts.
+/// Fills a catalogue with the records of a bundle's texts.
 fn fill(bytes: &[u8], catalogue: &mut Catalogue<'_>) -> Result<(), Fault>
-    requires blank { Fills catalogue.old none }
     ensures lent { Lent catalogue.old catalogue.new }
     ensures long { Long catalogue.old catalogue.new }
     ensures reads { MatchResult result
@@ -69,22 +68,20 @@ fn fill(bytes: &[u8], catalogue: &mut Catalogue<'_>) -> Result<(), Fault>
         return Err(Fault::of_whole(Cause::SmallCatalogue));
     }
     let bundle = Bundle::open(bytes)?;
+    catalogue.clear();
     read_texts(&bundle, catalogue)
 }
 
-/// Reads all texts of a bundle into lent memory. A refusal leaves that memory blank.
-pub fn read(
-    bytes: &[u8],
-    pins: &mut [PinRecord],
-    parts: &mut [PartRecord],
-    connections: &mut [ConnectionRecord],
-) -> Result<Counts, Fault>
-    ensures { MatchResult result
-        (λ n. Accepted bytes.now (made_of pins.old parts.old connections.old) (made_of pins.new parts.new connections.new) n)
-        (λ f. Refused bytes.now (made_of pins.old parts.old connections.old) (made_of pins.new parts.new connections.new) f) }
+/// Reads all texts of a bundle into a catalogue, in place of what it has. A refusal leaves it blank.
+pub fn read(bytes: &[u8], catalogue: &mut Catalogue<'_>) -> Result<Counts, Fault>
+    ensures lent { Lent catalogue.old catalogue.new }
+    ensures long { Long catalogue.old catalogue.new }
+    ensures verdict { MatchResult result
+        (λ n. Accepted bytes.now (slices catalogue.old) (slices catalogue.new) n)
+        (λ f. Refused bytes.now (slices catalogue.old) (slices catalogue.new) f) }
+    ensures counted { MatchResult result (λ n. n ≡ counted catalogue.new) (λ _. Fills catalogue.new none) }
 {
-    let mut catalogue = Catalogue::new(pins, parts, connections);
-    match fill(bytes, &mut catalogue) {
+    match fill(bytes, catalogue) {
         Ok(()) => Ok(catalogue.counts()),
         Err(fault) => {
             catalogue.clear();

@@ -3,8 +3,8 @@ use Rattle.std.proofs.Common.{◌≡◌, ℕ, suc, ◌+◌, ◌<◌, ◌≤◌, 
 use Rattle.std.specs.List.{AllByRecursion as All}
 use Rattle.fault.specs.declared.Place.{Place}
 use Rattle.lexer.specs.Lexemes.{Lexeme, fixed}
-use Rattle.catalogue.specs.declared.records.Side.{Side}
-use Rattle.catalogue.specs.declared.records.Side.TheVariants as variants
+use Rattle.kit.specs.declared.shape.Side.{Side}
+use Rattle.kit.specs.declared.shape.Side.TheVariants as variants
 use Rattle.grammar.specs.Tree.{Name, Row, items, Pin, FarEnd, constant, pin, Connection, Part, Chip}
 use Rattle.grammar.specs.Spelling.{mark, named, separated, pin_words, pins_words, subscript_words, far_words, connection_words, part_words, ins_words, header_words, parts_words, chip_words}
 use Rattle.catalogue.specs.declared.records.Span.{Span}

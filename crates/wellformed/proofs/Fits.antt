@@ -5,8 +5,8 @@ use Rattle.std.proofs.ByRecursion.{All-get_or, All-append}
 use Rattle.fault.specs.declared.Cause.TheVariants as cause
 use Rattle.bundle.specs.Layout.{name}
 use Rattle.lexer.specs.Lexemes.{Lexeme, fixed}
-use Rattle.catalogue.specs.declared.records.Side as kit
-use Rattle.catalogue.specs.declared.records.Side.TheVariants.{In, Out}
+use Rattle.kit.specs.declared.shape.Side as kit
+use Rattle.kit.specs.declared.shape.Side.TheVariants.{In, Out}
 use Rattle.grammar.specs.Tree.{Name, Row, items, Pin}
 use Rattle.grammar.specs.Spelling.{mark, named, pin_words, pins_words, header_words, chip_words}
 use Rattle.grammar.specs.Progress as state

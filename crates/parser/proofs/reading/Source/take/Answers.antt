@@ -26,15 +26,15 @@ returns-in-Some-ConnectionBegun-clause-reads c = λ r p q k g e. connection_begu
 pub returns-in-Some-PinEnded-clause-reads : goal.returns-in-Some-PinEnded-clause-reads
 returns-in-Some-PinEnded-clause-reads c = λ r p q k g e. pin_ended _ r p q _ _ _ _ k g e _ c.in-Some.ensures _ _ _ (sym (c.in-Some-PinEnded.is ∙ ap Some c.in-Some-PinEnded.field-0-is) ∙ c.of.ensures) _ _ c.end_pin.ensures.long c.end_pin.ensures.pin
 
-pub returns-then-last-clause-reads : goal.returns-then-last-clause-reads
-returns-then-last-clause-reads c =
+pub returns-in-Some-line-clause-reads : goal.returns-in-Some-line-clause-reads
+returns-in-Some-line-clause-reads c =
     let one = c.end_connection.ensures in
     let two = c.end_line.ensures in
     λ r p q k g e.
-    line_ended _ r p q _ _ _ _ k g e _ c.in-Some.ensures _ _ _ _ one.long one.fills _ (sym (c.in-Some-ConnectionEnded.is ∙ ap Some c.in-Some-ConnectionEnded.field-0-is) ∙ c.of.ensures) c.if-last.true
+    line_ended _ r p q _ _ _ _ k g e _ c.in-Some.ensures _ _ _ one.long one.fills _ (sym (c.in-Some-ConnectionEnded.is ∙ ap Some c.in-Some-ConnectionEnded.field-0-is) ∙ c.of.ensures) _ c.in-Some-line.is
     _ two.long _ two.read two.fills
 
-pub returns-else-last-clause-reads : goal.returns-else-last-clause-reads
-returns-else-last-clause-reads c =
+pub returns-in-None-line-clause-reads : goal.returns-in-None-line-clause-reads
+returns-in-None-line-clause-reads c =
     let one = c.end_connection.ensures in
-    λ r p q k g e. connection_ended _ r p q _ _ _ _ k g e _ c.in-Some.ensures _ _ _ _ one.long one.fills _ (sym (c.in-Some-ConnectionEnded.is ∙ ap Some c.in-Some-ConnectionEnded.field-0-is) ∙ c.of.ensures) c.if-last.false
+    λ r p q k g e. connection_ended _ r p q _ _ _ _ k g e _ c.in-Some.ensures _ _ _ one.long one.fills _ (sym (c.in-Some-ConnectionEnded.is ∙ ap Some c.in-Some-ConnectionEnded.field-0-is) ∙ c.of.ensures) c.in-None-line.is
