@@ -1,18 +1,18 @@
 //! A bundle that keeps the layout, over bytes that it borrows.
 ghost use Rattle.std.specs.Prelude.{◌≡◌, ℕ, ◌<◌, Some, MatchOption, MatchResult};
-ghost use Rattle.fault.specs.Faults.{nowhere};
-ghost use Rattle.fault.specs.declared.Cause.TheVariants.{BrokenLayout};
-ghost use Rattle.bundle.specs.Layout.{Layout};
-ghost use Rattle.bundle.specs.Entries.{EntryAt, Goes, Lies, Opened};
+ghost use Rattle.bundle.specs.Layout.{Layout, count};
 
-use crate::breach::Breach;
-use crate::check::{ROW, check, name_at, number_at};
+use crate::check::check;
+use crate::row::Row;
 use fault::Fault;
 
+/// An opened bundle.
 #[derive(Clone, Copy)]
 pub struct Bundle<'a> {
     bytes: &'a [u8],
     entries: usize,
+    pub ghost layout: { Layout bytes.now },
+    pub ghost counted: { entries ≡ count bytes.now },
 }
 
 /// An entry: its name, where its text starts in the bundle, and the text.
@@ -24,21 +24,18 @@ pub struct Entry<'a> {
 }
 
 impl<'a> Bundle<'a> {
+    ghost use Rattle.fault.specs.Faults.{nowhere};
+    ghost use Rattle.fault.specs.declared.Cause.TheVariants.{BrokenLayout};
+    ghost use Rattle.bundle.specs.Entries.{EntryAt, Goes, Lies, Opened};
+
     /// The bundle that the bytes are, or fault 2 where they break the layout.
     pub fn open(bytes: &'a [u8]) -> Result<Bundle<'a>, Fault>
         ensures { MatchResult result
             (λ b. Opened b × (b.bytes.now ≡ bytes.now))
             (λ f. (Layout bytes.now → ⊥) × (f ≡ nowhere BrokenLayout)) }
     {
-        let [low, high, rest @ ..] = bytes else {
-            return Err(Fault::from(Breach::NoCount));
-        };
-        let count = usize::from(*low) + 256 * usize::from(*high);
-        check(bytes, count, rest)?;
-        Ok(Bundle {
-            bytes,
-            entries: count,
-        })
+        let entries = check(bytes)?;
+        Ok(Bundle { bytes, entries })
     }
 
     /// How many entries there are.
@@ -52,20 +49,15 @@ impl<'a> Bundle<'a> {
     pub fn entry(&self, k: usize) -> Option<Entry<'a>>
         ensures { MatchOption result (Lies self.now k → ⊥) (λ e. EntryAt self.now k e) }
     {
+        if k >= self.count() {
+            return None;
+        }
         let bytes = self.bytes;
-        if k >= self.count() || k >= bytes.len().saturating_sub(2) / ROW {
-            return None;
-        }
-        let row = 2 + ROW * k;
-        let start = number_at(bytes, row + 32);
-        let end = start + number_at(bytes, row + 34);
-        if bytes.len() < end {
-            return None;
-        }
+        let row = Row { bytes, k };
         Some(Entry {
-            name: name_at(bytes, k),
-            start,
-            text: &bytes[start..end],
+            name: row.name(),
+            start: row.start(),
+            text: &bytes[row.start()..row.end()],
         })
     }
 

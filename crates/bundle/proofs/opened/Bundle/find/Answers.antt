@@ -7,7 +7,7 @@ use Rattle.bundle.proofs.opened.Bundle.find.Goals as goal
 pub returns-then-same : goal.returns-then-same
 returns-then-same c =
     let told = c.in-Some.ensures in
-    let here : Goes c.args.self.now c.args.name.now c.loop-k.k = record { lies = told.lies; named = sym told.named ∙ c.if-same.ensures.0 refl } in
+    let here : Goes c.args.self.now c.args.name.now c.loop-k.k = record { lies = told.lies; named = sym told.named ∙ c.if-same.ensures.same.0 refl } in
     record {
       first = (here, c.loop-k.invariant);
       only = λ o k g.
