@@ -30,10 +30,11 @@ fn check_entry(bytes: &[u8], k: usize, end: usize) -> Result<usize, Breach>
     if row.start() != end {
         return Err(Breach::Displaced(k));
     }
-    if row.end() > bytes.len() {
+    let stop = row.end();
+    if stop > bytes.len() {
         return Err(Breach::PastEnd(k));
     }
-    Ok(row.end())
+    Ok(stop)
 }
 
 /// Checks the entries, and that the last text ends with the bundle.
@@ -43,6 +44,7 @@ fn check_entries(bytes: &[u8], entries: usize) -> Result<(), Breach>
     ensures { MatchResult result (λ _. Layout bytes.now) (λ b. Broken bytes.now b) }
 {
     let mut end = 2 + ROW * entries;
+    // A `for` with `?` is as plain as `try_fold`, and each entry asks what those before it kept.
     for k in 0..entries {
         end = check_entry(bytes, k, end)?;
     }

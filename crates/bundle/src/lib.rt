@@ -8,5 +8,5 @@ mod row;
 
 pub use breach::Breach;
 pub use check::{MAX_BYTES, MAX_ENTRIES};
-pub use opened::{Bundle, Entry};
+pub use opened::{Bundle, Entries, Entry};
 pub use row::ROW;

@@ -1,5 +1,5 @@
 //! A bundle that keeps the layout, over bytes that it borrows.
-ghost use Rattle.std.specs.Prelude.{◌≡◌, ℕ, ◌<◌, Some, MatchOption, MatchResult};
+ghost use Rattle.std.specs.Prelude.{◌≡◌, ℕ, ◌<◌, ◌≤◌, Some, MatchOption, MatchResult};
 ghost use Rattle.bundle.specs.Layout.{Layout, count};
 
 use crate::check::check;
@@ -21,6 +21,14 @@ pub struct Entry<'a> {
     pub name: &'a [u8],
     pub start: usize,
     pub text: &'a [u8],
+}
+
+/// The entries of a bundle, one after another.
+#[derive(Drop)]
+pub struct Entries<'a> {
+    bundle: Bundle<'a>,
+    next: usize,
+    pub ghost within: { next ≤ bundle.entries },
 }
 
 impl<'a> Bundle<'a> {
@@ -52,13 +60,27 @@ impl<'a> Bundle<'a> {
         if k >= self.count() {
             return None;
         }
-        let bytes = self.bytes;
-        let row = Row { bytes, k };
+        let row = Row {
+            bytes: self.bytes,
+            k,
+        };
+        let start = row.start();
         Some(Entry {
             name: row.name(),
-            start: row.start(),
-            text: &bytes[row.start()..row.end()],
+            start,
+            text: &self.bytes[start..row.end()],
         })
+    }
+
+    /// The entries, in the order of their numbers.
+    pub fn entries(&self) -> Entries<'a>
+        ensures bundle { result.bundle ≡ self.now }
+        ensures first { result.next ≡ 0 }
+    {
+        Entries {
+            bundle: *self,
+            next: 0,
+        }
     }
 
     /// The number of the entry that goes by the name.
@@ -68,13 +90,26 @@ impl<'a> Bundle<'a> {
             (λ k. Goes self.now name.now k × ((j : ℕ) → j < k → Goes self.now name.now j → ⊥)) }
         ensures only { Opened self.now → (k : ℕ) → Goes self.now name.now k → result ≡ Some k }
     {
-        for k in 0..self.count() {
-            if let Some(entry) = self.entry(k) {
-                if text::same(entry.name, name) {
-                    return Some(k);
-                }
-            }
-        }
-        None
+        self.entries()
+            .position(|entry| text::same(entry.name, name))
+    }
+}
+
+impl<'a> Iterator for Entries<'a> {
+    ghost use Rattle.std.specs.Prelude.{◌-◌};
+    ghost use Rattle.std.specs.Iterator.{at_most};
+    ghost use Rattle.bundle.specs.Entries.{NextEntry};
+
+    type Item = Entry<'a>;
+
+    ghost next_gives = { NextEntry };
+
+    ghost remaining = { λ s. at_most (s.bundle.entries - s.next) };
+
+    /// The next entry.
+    fn next(&mut self) -> Option<Entry<'a>> {
+        let entry = self.bundle.entry(self.next)?;
+        self.next += 1;
+        Some(entry)
     }
 }
