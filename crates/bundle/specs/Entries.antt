@@ -1,7 +1,8 @@
 -- What an opened bundle tells of its entries.
-use Rattle.std.specs.Prelude.{◌≡◌, ℕ, ◌+◌, ◌<◌, ◌≤◌, List, length}
+use Rattle.std.specs.Prelude.{◌≡◌, ℕ, ◌+◌, ◌<◌, ◌≤◌, List, length, Option, MatchOption}
 use Rattle.bundle.specs.declared.opened.Bundle.{Bundle}
 use Rattle.bundle.specs.declared.opened.Entry.{Entry}
+use Rattle.bundle.specs.declared.opened.Entries.{Entries}
 use Rattle.bundle.specs.Layout.{Layout, count, row, name, start, size, text}
 
 -- the bundle stands for bytes that keep the layout
@@ -26,3 +27,8 @@ pub record EntryAt (b : Bundle) (k : ℕ) (e : Entry) : Type 0 where
 pub record Goes (b : Bundle) (n : List ℕ) (k : ℕ) : Type 0 where
   pub lies : Lies b k
   pub named : name b.bytes.now k ≡ n
+
+-- a call of `next` gave the next entry, or there was none left
+abbrev pub NextEntry : Entries → Option Entry → Entries → Type 0
+NextEntry s r t =
+    (t.bundle ≡ s.bundle) × MatchOption r ((s.next ≡ s.bundle.entries) × (t.next ≡ s.next)) (λ e. EntryAt s.bundle s.next e × (t.next ≡ s.next + 1))

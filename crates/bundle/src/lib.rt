@@ -4,7 +4,9 @@
 mod breach;
 mod check;
 mod opened;
+mod row;
 
 pub use breach::Breach;
-pub use check::{MAX_BYTES, MAX_ENTRIES, ROW};
-pub use opened::{Bundle, Entry};
+pub use check::{MAX_BYTES, MAX_ENTRIES};
+pub use opened::{Bundle, Entries, Entry};
+pub use row::ROW;

@@ -1,18 +1,18 @@
 //! A bundle that keeps the layout, over bytes that it borrows.
-ghost use Rattle.std.specs.Prelude.{◌≡◌, ℕ, ◌<◌, Some, MatchOption, MatchResult};
-ghost use Rattle.fault.specs.Faults.{nowhere};
-ghost use Rattle.fault.specs.declared.Cause.TheVariants.{BrokenLayout};
-ghost use Rattle.bundle.specs.Layout.{Layout};
-ghost use Rattle.bundle.specs.Entries.{EntryAt, Goes, Lies, Opened};
+ghost use Rattle.std.specs.Prelude.{◌≡◌, ℕ, ◌<◌, ◌≤◌, Some, MatchOption, MatchResult};
+ghost use Rattle.bundle.specs.Layout.{Layout, count};
 
-use crate::breach::Breach;
-use crate::check::{ROW, check, name_at, number_at};
+use crate::check::check;
+use crate::row::Row;
 use fault::Fault;
 
+/// An opened bundle.
 #[derive(Clone, Copy)]
 pub struct Bundle<'a> {
     bytes: &'a [u8],
     entries: usize,
+    pub ghost layout: { Layout bytes.now },
+    pub ghost counted: { entries ≡ count bytes.now },
 }
 
 /// An entry: its name, where its text starts in the bundle, and the text.
@@ -23,22 +23,27 @@ pub struct Entry<'a> {
     pub text: &'a [u8],
 }
 
+/// The entries of a bundle, one after another.
+#[derive(Drop)]
+pub struct Entries<'a> {
+    bundle: Bundle<'a>,
+    next: usize,
+    pub ghost within: { next ≤ bundle.entries },
+}
+
 impl<'a> Bundle<'a> {
+    ghost use Rattle.fault.specs.Faults.{nowhere};
+    ghost use Rattle.fault.specs.declared.Cause.TheVariants.{BrokenLayout};
+    ghost use Rattle.bundle.specs.Entries.{EntryAt, Goes, Lies, Opened};
+
     /// The bundle that the bytes are, or fault 2 where they break the layout.
     pub fn open(bytes: &'a [u8]) -> Result<Bundle<'a>, Fault>
         ensures { MatchResult result
             (λ b. Opened b × (b.bytes.now ≡ bytes.now))
             (λ f. (Layout bytes.now → ⊥) × (f ≡ nowhere BrokenLayout)) }
     {
-        let [low, high, rest @ ..] = bytes else {
-            return Err(Fault::from(Breach::NoCount));
-        };
-        let count = usize::from(*low) + 256 * usize::from(*high);
-        check(bytes, count, rest)?;
-        Ok(Bundle {
-            bytes,
-            entries: count,
-        })
+        let entries = check(bytes)?;
+        Ok(Bundle { bytes, entries })
     }
 
     /// How many entries there are.
@@ -52,21 +57,30 @@ impl<'a> Bundle<'a> {
     pub fn entry(&self, k: usize) -> Option<Entry<'a>>
         ensures { MatchOption result (Lies self.now k → ⊥) (λ e. EntryAt self.now k e) }
     {
-        let bytes = self.bytes;
-        if k >= self.count() || k >= bytes.len().saturating_sub(2) / ROW {
+        if k >= self.count() {
             return None;
         }
-        let row = 2 + ROW * k;
-        let start = number_at(bytes, row + 32);
-        let end = start + number_at(bytes, row + 34);
-        if bytes.len() < end {
-            return None;
-        }
+        let row = Row {
+            bytes: self.bytes,
+            k,
+        };
+        let start = row.start();
         Some(Entry {
-            name: name_at(bytes, k),
+            name: row.name(),
             start,
-            text: &bytes[start..end],
+            text: &self.bytes[start..row.end()],
         })
+    }
+
+    /// The entries, in the order of their numbers.
+    pub fn entries(&self) -> Entries<'a>
+        ensures bundle { result.bundle ≡ self.now }
+        ensures first { result.next ≡ 0 }
+    {
+        Entries {
+            bundle: *self,
+            next: 0,
+        }
     }
 
     /// The number of the entry that goes by the name.
@@ -76,13 +90,26 @@ impl<'a> Bundle<'a> {
             (λ k. Goes self.now name.now k × ((j : ℕ) → j < k → Goes self.now name.now j → ⊥)) }
         ensures only { Opened self.now → (k : ℕ) → Goes self.now name.now k → result ≡ Some k }
     {
-        for k in 0..self.count() {
-            if let Some(entry) = self.entry(k) {
-                if text::same(entry.name, name) {
-                    return Some(k);
-                }
-            }
-        }
-        None
+        self.entries()
+            .position(|entry| text::same(entry.name, name))
+    }
+}
+
+impl<'a> Iterator for Entries<'a> {
+    ghost use Rattle.std.specs.Prelude.{◌-◌};
+    ghost use Rattle.std.specs.Iterator.{at_most};
+    ghost use Rattle.bundle.specs.Entries.{NextEntry};
+
+    type Item = Entry<'a>;
+
+    ghost next_gives = { NextEntry };
+
+    ghost remaining = { λ s. at_most (s.bundle.entries - s.next) };
+
+    /// The next entry.
+    fn next(&mut self) -> Option<Entry<'a>> {
+        let entry = self.bundle.entry(self.next)?;
+        self.next += 1;
+        Some(entry)
     }
 }

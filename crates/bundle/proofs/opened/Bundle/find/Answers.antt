@@ -1,17 +1,13 @@
-use Rattle.std.proofs.Common.{◌<◌, Some, sym, refl, ap, ◌∙◌, arith}
-use Rattle.bundle.specs.Layout.{count}
-use Rattle.bundle.specs.Entries.{Goes}
-use Rattle.bundle.proofs.Rising.{one_name}
+use Rattle.std.proofs.Common.{◌≡◌, subst, rules}
+use Rattle.std.proofs.lemmas.Iterator.{IsFirst-from_position}
+use borrow.Author.Tests.{tests}
+use Rattle.bundle.proofs.Finding.{First, gives_names, first_named, only_one}
 use Rattle.bundle.proofs.opened.Bundle.find.Goals as goal
 
-pub returns-then-same : goal.returns-then-same
-returns-then-same c =
-    let told = c.in-Some.ensures in
-    let here : Goes c.args.self.now c.args.name.now c.loop-k.k = record { lies = told.lies; named = sym told.named ∙ c.if-same.ensures.0 refl } in
-    record {
-      first = (here, c.loop-k.invariant);
-      only = λ o k g.
-          let a : c.loop-k.k < count c.args.self.now.bytes.now = omega (arith, here.lies.below, o.counted) in
-          let b : k < count c.args.self.now.bytes.now = omega (arith, g.lies.below, o.counted) in
-          ap Some (one_name _ o.layout _ k a b (here.named ∙ sym g.named));
-    }
+pub returns : goal.returns
+returns c =
+    let n = c.args.name.now in
+    let s = c.entries.result in
+    let ran = IsFirst-from_position c.position.new.self _ _ (λ m. m ≡ n) (λ m. m ≡ n → ⊥) c.position.ensures.ran (gives_names s) (λ x q k. search (rules, tests)) (λ x q k. search (rules, tests)) in
+    let first = subst (λ b. First b n c.position.result) c.entries.ensures.bundle (first_named s c.entries.ensures.first n c.position.result ran) in
+    record { first = first; only = λ o. only_one _ n c.position.result first }
