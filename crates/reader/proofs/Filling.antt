@@ -1,5 +1,9 @@
 -- One text more, and what is kept over a call that fills the catalogue.
 use Rattle.std.proofs.Common.{◌≡◌, ℕ, suc, ◌<◌, ◌≤◌, List, sym, ◌∙◌, subst}
+use Rattle.bundle.specs.declared.opened.Bundle.{Bundle}
+use Rattle.bundle.specs.declared.opened.Entries.{Entries}
+use Rattle.bundle.specs.declared.opened.Entry.{Entry}
+use Rattle.bundle.specs.Entries.{EntryAt}
 use Rattle.bundle.specs.Layout.{count, name, text}
 use Rattle.catalogue.specs.declared.room.Catalogue.{Catalogue}
 use Rattle.catalogue.specs.Records.{with_chip}
@@ -28,3 +32,7 @@ pub unread_at : (s : List ℕ) (k : ℕ) (a : Catalogue) (n t : List ℕ) (x : R
 unread_at s k a n t x l p q f h =
     let one = subst (λ y. Faulty y f.records t h.cause h.byte) p h.faulty in
     record { entry = k; below = l; records = f.records; read = f.read; cause = h.cause; byte = h.byte; faulty = subst (λ y. Faulty (name s k) f.records y h.cause h.byte) q one; is = h.tells }
+
+-- the entry that an iterator over the entries of b gives, which has come to c
+pub entry_at : (b : Bundle) (i : Entries) (c k : ℕ) (e : Entry) → i.bundle ≡ b → i.next ≡ c → k ≡ c → EntryAt i.bundle i.next e → EntryAt b k e
+entry_at b i c k e p q r h = subst (λ (x : Bundle). EntryAt x k e) p (subst (λ n. EntryAt i.bundle n e) (q ∙ sym r) h)

@@ -1,5 +1,5 @@
 -- What reading all texts of a bundle comes to.
-use Rattle.std.specs.Prelude.{◌≡◌, ℕ, suc, ◌<◌, List, length, replicate}
+use Rattle.std.specs.Prelude.{◌≡◌, ℕ, suc, ◌<◌, List, length}
 use Rattle.fault.specs.declared.Cause.{Cause}
 use Rattle.fault.specs.declared.Cause.TheVariants.{SmallCatalogue, BrokenLayout}
 use Rattle.fault.specs.declared.Fault.{Fault}
@@ -8,9 +8,6 @@ use Rattle.bundle.specs.Layout.{Layout, count, name, text}
 use Rattle.grammar.specs.Tree.{Chip}
 use Rattle.catalogue.specs.Records as records
 use Rattle.catalogue.specs.Records.{Records, with_chip, blank_pin, blank_part, blank_connection}
-use Rattle.catalogue.specs.declared.records.PinRecord.{PinRecord}
-use Rattle.catalogue.specs.declared.records.PartRecord.{PartRecord}
-use Rattle.catalogue.specs.declared.records.ConnectionRecord.{ConnectionRecord}
 use Rattle.catalogue.specs.declared.room.Catalogue.{Catalogue}
 use Rattle.catalogue.specs.declared.room.Counts.{Counts}
 use Rattle.catalogue.specs.Holding.{Slices, Enough, Holds, Fills}

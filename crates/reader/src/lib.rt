@@ -18,30 +18,8 @@ mod single;
 
 pub use single::verdicts_are_one;
 
-/// Reads the text of the entry `k`, behind those of the entries before it.
-fn read_entry(bundle: &Bundle<'_>, k: usize, catalogue: &mut Catalogue<'_>) -> Result<(), Fault>
-    requires opened { Opened bundle.now }
-    requires below { k < bundle.now.entries }
-    requires enough { Enough (slices catalogue.old) }
-    requires filled { FilledUpto bundle.now.bytes.now k catalogue.old }
-    ensures lent { Lent catalogue.old catalogue.new }
-    ensures long { Long catalogue.old catalogue.new }
-    ensures reads { MatchResult result
-        (λ _. FilledUpto bundle.now.bytes.now (suc k) catalogue.new)
-        (λ f. Unread bundle.now.bytes.now f) }
-{
-    match bundle.entry(k) {
-        Some(entry) => {
-            read_text(k, entry.name, entry.text, catalogue)?;
-            Ok(())
-        }
-        None => Ok(()),
-    }
-}
-
 /// Reads the texts of a bundle, one behind the other, up to the first that has a fault.
 fn read_texts(bundle: &Bundle<'_>, catalogue: &mut Catalogue<'_>) -> Result<(), Fault>
-    requires opened { Opened bundle.now }
     requires enough { Enough (slices catalogue.old) }
     requires blank { Fills catalogue.old none }
     ensures lent { Lent catalogue.old catalogue.new }
@@ -50,8 +28,8 @@ fn read_texts(bundle: &Bundle<'_>, catalogue: &mut Catalogue<'_>) -> Result<(), 
         (λ _. AllRead bundle.now.bytes.now catalogue.new)
         (λ f. Unread bundle.now.bytes.now f) }
 {
-    for k in 0..bundle.count() {
-        read_entry(bundle, k, catalogue)?;
+    for (k, entry) in bundle.entries().enumerate() {
+        read_text(k, entry.name, entry.text, catalogue)?;
     }
     Ok(())
 }
