@@ -98,8 +98,8 @@ impl<'t> Source<'_, 't> {
         ensures { Decides result (Declared self.entry.bytes.now self.entry.pins catalogue.now name) }
     {
         let pins = catalogue.pins.as_slice();
-        let own = &pins[self.pins.min(pins.len())..];
-        self.is_among(own, self.bytes_at(name))
+        let from = self.pins.min(pins.len());
+        self.is_among(&pins[from..], self.bytes_at(name))
     }
 
     /// Whether a pin may not stand behind those that the text has.
