@@ -43,7 +43,8 @@ pub record Fills (c : Catalogue) (r : Records) : Type 0 where
   pub parts : c.parts.used ≡ length r.parts
   pub connections : c.connections.used ≡ length r.connections
 
--- the same memory is lent to both
+-- the same memory is lent to both. This and what follows are no invariant of a type: they are about two catalogues, before a
+-- call and after it
 abbrev pub Lent : Catalogue → Catalogue → Type 0
 Lent a b = (b.pins.rows.ghost_name ≡ a.pins.rows.ghost_name) × (b.parts.rows.ghost_name ≡ a.parts.rows.ghost_name) × (b.connections.rows.ghost_name ≡ a.connections.rows.ghost_name)
 

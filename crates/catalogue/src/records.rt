@@ -7,6 +7,10 @@ ghost use Rattle.catalogue.specs.Shapes.{joint_of, shape};
 use crate::table::Record;
 use fault::Place;
 use kit::{Pin, Side};
+use std::fmt;
+
+// Part lines and connections name one another by number: their memory is lent and its size fixed, and
+// nothing of them is on the heap.
 
 /// Where a name stands in its text: its first byte, and how many bytes it has.
 #[derive(Clone, Copy, Debug, PartialEq, Eq)]
@@ -21,6 +25,17 @@ pub enum Subscript {
     All,
     Bit(usize),
     Range(usize, usize),
+}
+
+impl fmt::Display for Subscript {
+    /// As it is written.
+    fn fmt<W: fmt::Write>(&self, f: &mut fmt::Formatter<W>) -> fmt::Result {
+        match self {
+            Subscript::All => Ok(()),
+            Subscript::Bit(n) => write!(f, "[{n}]"),
+            Subscript::Range(n, m) => write!(f, "[{n}..{m}]"),
+        }
+    }
 }
 
 /// A pin that a chip declares.

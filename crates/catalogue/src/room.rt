@@ -101,4 +101,28 @@ impl Room {
             connections: [ConnectionRecord::BLANK; CONNECTIONS],
         }
     }
+
+    /// A catalogue over it that has no records.
+    pub fn catalogue(&mut self) -> Catalogue<'_>
+        ensures over { slices result ≡ record { pins = self.old.pins; parts = self.old.parts; connections = self.old.connections } }
+        ensures none { counted result ≡ record { pins = 0; parts = 0; connections = 0 } }
+    {
+        let pins = &mut self.pins;
+        let parts = &mut self.parts;
+        let connections = &mut self.connections;
+        Catalogue {
+            pins: Table {
+                rows: pins,
+                used: 0,
+            },
+            parts: Table {
+                rows: parts,
+                used: 0,
+            },
+            connections: Table {
+                rows: connections,
+                used: 0,
+            },
+        }
+    }
 }
