@@ -20,12 +20,10 @@ fn is_new(sources: &[Source<'_>], i: usize) -> bool
     requires { i < length sources.now }
     ensures { MatchBool result (New sources.now i) (Taken sources.now i) }
 {
-    for j in 0..i {
-        if text::same(sources[j].name, sources[i].name) {
-            return false;
-        }
-    }
-    true
+    let name = sources[i].name;
+    sources[..i]
+        .iter()
+        .all(|source| !text::same(source.name, name))
 }
 
 /// Checks the source `i`, before whose text the bundle has `size` bytes, and answers how many it

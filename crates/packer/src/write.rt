@@ -17,7 +17,7 @@ fn push_number(out: &mut Vec<u8>, n: usize) -> Result<(), AllocError>
     requires { n ≤ 65535 }
     ensures { OnOk result (out.new.items ≡ out.old.items ++ number n) }
 {
-    out.extend_from_slice(&[(n % 256) as u8, (n / 256) as u8])
+    out.extend_from_slice(&(n as u16).to_le_bytes())
 }
 
 /// Writes the row of a source whose text starts at `start`.
