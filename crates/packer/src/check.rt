@@ -57,6 +57,7 @@ pub fn check_sources(sources: &[Source<'_>]) -> Result<(), PackFault>
         return Err(PackFault::TooManyEntries);
     }
     let mut size = head_len(sources.len());
+    // By numbers, since a rule speaks of the sources before: `sources[i]` is not all that it reads.
     for i in 0..sources.len() {
         size = check_source(sources, i, size)?;
     }
