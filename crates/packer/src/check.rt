@@ -57,7 +57,7 @@ pub fn check_sources(sources: &[Source<'_>]) -> Result<(), PackFault>
         return Err(PackFault::TooManyEntries);
     }
     let mut size = head_len(sources.len());
-    // By numbers, since a rule speaks of the sources before: `sources[i]` is not all that it reads.
+    // By number: the check of a source reads those before it too, and its fault tells the number.
     for i in 0..sources.len() {
         size = check_source(sources, i, size)?;
     }
