@@ -1,7 +1,7 @@
 -- What the bytes that are written for sources say at each place.
-use Rattle.std.proofs.Common.{◌≡◌, ℕ, zero, suc, ◌+◌, ◌-◌, ◌*◌, ◌<◌, ◌≤◌, List, [], ◌∷◌, ◌++◌, length, get_or, take, drop, replicate, sym, refl, ap, ◌∙◌, add-zero, arith}
+use Rattle.std.proofs.Common.{◌≡◌, ℕ, zero, suc, ◌+◌, ◌-◌, ◌*◌, ◌<◌, ◌≤◌, List, [], ◌∷◌, ◌++◌, length, take, drop, replicate, sym, refl, ap, ◌∙◌, add-zero, arith}
 use Rattle.std.specs.List.{AllByRecursion as All}
-use Rattle.std.proofs.lemmas.List.{append_assoc, append-nil, length-append, length-replicate, get_or-drop, drop-drop, drop_at, at_drop_more, at_drop_all, take-replicate, drop-replicate}
+use Rattle.std.proofs.lemmas.List.{append_assoc, length-append, length-replicate, get_or-drop, drop-drop, drop_at, take-replicate, drop-replicate}
 use Rattle.std.proofs.lemmas.List.Sums.{sum_by-cons}
 use Rattle.text.specs.Names.{byte}
 use Rattle.packer.specs.declared.source.Source.{Source}
@@ -94,17 +94,3 @@ row_written v v1 v2 v3 v4 s at e1 e2 e3 e4 =
     e4
     ∙ ap (λ u. u ++ size) (e3 ∙ ap (λ u. u ++ number at) (e2 ∙ ap (λ u. v1 ++ u) (zeros_part (length n)) ∙ ap (λ u. u ++ zeros) e1))
     ∙ four_parts v n zeros (number at) size
-
--- one more row, and the last one, where v has been written and e is to be
-pub rows_more : (v u e : List ℕ) (ss : List Source) (i at : ℕ) (d : Source) → i < length ss → u ≡ v ++ row_of (get_or ss i d) at → v ++ rows (drop i ss) at ≡ e → u ++ rows (drop (i + 1) ss) (at + length (get_or ss i d).text.now) ≡ e
-unfolding rows
-rows_more v u e ss i at d l told inv =
-    let behind = rows (drop (i + 1) ss) (at + length (get_or ss i d).text.now) in
-    ap (λ w. w ++ behind) told
-    ∙ append_assoc v (row_of (get_or ss i d) at) behind
-    ∙ ap (λ w. v ++ w) (sym (at_drop_more (λ xs. rows xs at) ss i d l))
-    ∙ inv
-
-pub rows_all : (v e : List ℕ) (ss : List Source) (i at : ℕ) → length ss ≤ i → v ++ rows (drop i ss) at ≡ e → v ≡ e
-unfolding rows
-rows_all v e ss i at l inv = sym (append-nil v) ∙ ap (λ w. v ++ w) (sym (at_drop_all (λ xs. rows xs at) ss i l)) ∙ inv

@@ -33,3 +33,6 @@ bytes_more ss i l =
 
 pub bytes_within : (ss : List Source) (i : ℕ) → bytes (take i ss) ≤ bytes ss
 bytes_within ss i = sum_by-take-le (λ s. length s.text.now) ss i
+
+-- what a loop over sources knows of the one that it reads, for `grind`
+pub ruleset source_read = (name_read, text_read, bytes_more)
