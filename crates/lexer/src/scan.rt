@@ -111,22 +111,6 @@ fn word_end(text: &[u8], i: usize) -> usize
     end
 }
 
-/// The token of a reserved word.
-fn reserved<'a>(keyword: Keyword) -> Token<'a>
-    ensures { Spells (spelling keyword) result }
-{
-    match keyword {
-        Keyword::Chip => Token::Chip,
-        Keyword::In => Token::In,
-        Keyword::Out => Token::Out,
-        Keyword::Parts => Token::Parts,
-        Keyword::Builtin => Token::Builtin,
-        Keyword::Clocked => Token::Clocked,
-        Keyword::True => Token::True,
-        Keyword::False => Token::False,
-    }
-}
-
 /// The number that the bytes write, if they are digits and it is small enough.
 fn number(bytes: &[u8]) -> Option<u16>
     requires { 0 < length bytes.now }
@@ -152,7 +136,7 @@ fn word(bytes: &[u8]) -> Option<Token<'_>>
     ensures { MatchOption result ((t : Token) → Spells bytes.now t → ⊥) (λ t. Spells bytes.now t) }
 {
     if let Some(keyword) = Keyword::of(bytes) {
-        Some(reserved(keyword))
+        Some(Token::from(keyword))
     } else if text::is_name(bytes) {
         Some(Token::Name(bytes))
     } else {
