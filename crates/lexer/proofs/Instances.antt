@@ -60,4 +60,4 @@ a_fault = record { gap = none; within = omega arith; no_separator = no_separator
     no_separator j (block l) = omega (arith, l.after, l.within)
 
     no_token : (j : ℕ) (t : Token) → Stands (codes "/*/") 0 j t → ⊥
-    no_token j t h = both_ways (mark 47) refl (token_mark 47 t refl (mark_token (codes "/*/") 0 j t refl (λ p. omega (arith, p.0)) h))
+    no_token j t h = both_ways (mark 47) refl (token_mark 47 t refl (mark_token (codes "/*/") j t h refl (λ p. omega (arith, p.0))))

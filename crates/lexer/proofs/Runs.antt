@@ -20,46 +20,33 @@ module _ (s : List ℕ) (i : ℕ) where
       let e : i + (k - i) ≡ k = omega arith in
       sym (ap is_ascii_alphanumeric (get_or-between s i j (k - i) 0 (omega arith) ∙ ap (byte s) e)) ∙ w (k - i) (omega (arith, length-between s i j m))
 
-  -- letters and digits stand from i to e, and none at e
-  pub record Run (e : ℕ) : Type 0 where
-    pub some : i < e
-    pub within : e ≤ length s
-    pub inside : (k : ℕ) → i ≤ k → k < e → is_ascii_alphanumeric (byte s k) ≡ true
-    pub ends : is_ascii_alphanumeric (byte s e) ≡ false
-
-  pub run_some : (e : ℕ) → Run e → 0 < length (between i e s)
-  run_some e r = omega (arith, r.some, length-between s i e r.within)
-
-  pub run_word : (e : ℕ) → Run e → Word (between i e s)
-  run_word e r k h =
-      let l : i + k < e = omega (arith, length-between s i e r.within) in
-      ap is_ascii_alphanumeric (get_or-between s i e k 0 l) ∙ r.inside (i + k) (omega arith) l
-
-  -- a token that begins with a letter or a digit is the whole run
-  run_form : (e j : ℕ) (t : Token) → Run e → Stands s i j t → Form (between i j s) → j ≡ e
-  run_form e j t r h (word w) =
-      let first = r.inside i (omega arith) r.some in
+-- a token that stands in front
+module _ (s : List ℕ) (j : ℕ) (t : Token) (h : Stands s 0 j t) where
+  -- one that begins with a letter or a digit is the whole run
+  run_form : (e : ℕ) → is_ascii_alphanumeric (byte s 0) ≡ true → ((k : ℕ) → k < e → is_ascii_alphanumeric (byte s k) ≡ true) → is_ascii_alphanumeric (byte s e) ≡ false → Form (between 0 j s) → j ≡ e
+  run_form e first inside ends (word w) =
       ⊎_elim (λ same. same)
       (⊎_elim
-      (λ less. absurd (both_ways _ (h.whole first) (r.inside j (omega (arith, h.after)) less)))
-      (λ past. absurd (both_ways _ r.ends (word_inside j e (omega (arith, r.some)) past h.within w))))
+      (λ less. absurd (both_ways _ (h.whole first) (inside j less)))
+      (λ past. absurd (both_ways _ ends (word_inside s 0 j e (omega arith) past h.within w))))
       (cases_order j e)
-  run_form e j t r h (dots d) =
-      absurd (both_ways _ (ap is_ascii_alphanumeric (begins s i j _ _ h.after d)) (r.inside i (omega arith) r.some))
-  run_form e j t r h (sign b m d) =
-      absurd (both_ways _ (ap is_ascii_alphanumeric (begins s i j b [] h.after d) ∙ mark_other b m) (r.inside i (omega arith) r.some))
+  run_form e first inside ends (dots d) =
+      absurd (both_ways _ (ap is_ascii_alphanumeric (begins s 0 j _ _ h.after d)) first)
+  run_form e first inside ends (sign b m d) =
+      absurd (both_ways _ (ap is_ascii_alphanumeric (begins s 0 j b [] h.after d) ∙ mark_other b m) first)
 
-  pub run_token : (e j : ℕ) (t : Token) → Run e → Stands s i j t → j ≡ e
-  run_token e j t r h = run_form e j t r h (form (between i j s) t h.spells)
+  pub run_token : (e : ℕ) → is_ascii_alphanumeric (byte s 0) ≡ true → ((k : ℕ) → k < e → is_ascii_alphanumeric (byte s k) ≡ true) → is_ascii_alphanumeric (byte s e) ≡ false → Spells (between 0 e s) t
+  run_token e first inside ends =
+      subst (λ k. Spells (between 0 k s) t) (run_form e first inside ends (form (between 0 j s) t h.spells)) h.spells
 
-  -- a token that begins with another byte, and is not `..`, is that byte
-  mark_form : (j : ℕ) (t : Token) → is_ascii_alphanumeric (byte s i) ≡ false → (Pair 46 46 s i → ⊥) → Stands s i j t → Form (between i j s) → Spells (byte s i ∷ []) t
-  mark_form j t other apart h (word w) = absurd (both_ways _ other (word_first j h.after h.within w))
-  mark_form j t other apart h (dots d) =
-      let far = long s i j _ h.after h.within d in
-      absurd (apart (begins s i j _ _ h.after d, sym (get_or-between s i j 1 0 (omega arith)) ∙ ap (λ l. byte l 1) d))
-  mark_form j t other apart h (sign b m d) =
-      subst (λ l. Spells l t) (d ∙ ap (λ c. c ∷ []) (sym (begins s i j b [] h.after d))) h.spells
+  -- one that begins with another byte, and is not `..`, is that byte
+  mark_form : is_ascii_alphanumeric (byte s 0) ≡ false → (Pair 46 46 s 0 → ⊥) → Form (between 0 j s) → Spells (byte s 0 ∷ []) t
+  mark_form other apart (word w) = absurd (both_ways _ other (word_first s 0 j h.after h.within w))
+  mark_form other apart (dots d) =
+      let far = long s 0 j _ h.after h.within d in
+      absurd (apart (begins s 0 j _ _ h.after d, sym (get_or-between s 0 j 1 0 (omega arith)) ∙ ap (λ l. byte l 1) d))
+  mark_form other apart (sign b m d) =
+      subst (λ l. Spells l t) (d ∙ ap (λ c. c ∷ []) (sym (begins s 0 j b [] h.after d))) h.spells
 
-  pub mark_token : (j : ℕ) (t : Token) → is_ascii_alphanumeric (byte s i) ≡ false → (Pair 46 46 s i → ⊥) → Stands s i j t → Spells (byte s i ∷ []) t
-  mark_token j t other apart h = mark_form j t other apart h (form (between i j s) t h.spells)
+  pub mark_token : is_ascii_alphanumeric (byte s 0) ≡ false → (Pair 46 46 s 0 → ⊥) → Spells (byte s 0 ∷ []) t
+  mark_token other apart = mark_form other apart (form (between 0 j s) t h.spells)
