@@ -126,16 +126,6 @@ no_fixed bs some w free (reserved r) = free r
 no_fixed bs some w free (dots e) = both_ways (is_ascii_alphanumeric 46) refl (sym (ap (λ l. is_ascii_alphanumeric (byte l 0)) e) ∙ w 0 some)
 no_fixed bs some w free (sign b m e) = both_ways (is_ascii_alphanumeric b) (mark_other b m) (sym (ap (λ l. is_ascii_alphanumeric (byte l 0)) e) ∙ w 0 some)
 
--- a word that is no reserved word, no name and no number is no token
-module _ (bs : List ℕ) (some : 0 < length bs) (w : Word bs) (free : Reserved bs → ⊥) (unnamed : Named bs → ⊥) (wordy : (n : ℕ) → Numeral bs n → ⊥) where
-  no_sort : (v : Lexeme) → Sort 0 bs v → ⊥
-  no_sort v (named h e) = unnamed h
-  no_sort v (numeral n h e) = wordy n h
-  no_sort v (kept h e) = no_fixed bs some w free h
-
-  pub no_word : (t : Token) → Spells bs t → ⊥
-  no_word t h = no_sort (lexeme 0 t) (sort 0 bs t h)
-
 -- a byte that is a token and no letter or digit is a mark
 sign_mark : (b : ℕ) → is_ascii_alphanumeric b ≡ false → Form (b ∷ []) → mark b ≡ true
 sign_mark b a (word w) = absurd (both_ways (is_ascii_alphanumeric b) a (w 0 (omega arith)))
