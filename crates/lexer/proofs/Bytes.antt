@@ -1,19 +1,8 @@
 -- The bytes of a text, one by one and in parts.
-use Rattle.std.proofs.Common.{◌≡◌, ℕ, ◌+◌, ◌<◌, ◌≤◌, List, [], ◌∷◌, length, sym, ap, ◌∙◌, ⊎_elim, add-zero, arith}
+use Rattle.std.proofs.Common.{◌≡◌, ℕ, ◌+◌, ◌<◌, ◌≤◌, List, ◌∷◌, length, sym, ap, ◌∙◌, add-zero, arith}
 use Rattle.std.specs.List.{between}
-use Rattle.std.proofs.lemmas.List.{get_or_past}
-use Rattle.std.proofs.lemmas.Bool.{cases_lt}
 use Rattle.std.proofs.lemmas.List.Edits.{length-between, get_or-between}
 use Rattle.text.specs.Names.{byte}
-
-pub byte_past : (s : List ℕ) (i : ℕ) → length s ≤ i → byte s i ≡ 0
-byte_past s i h = get_or_past s i 0 h
-
-pub byte_within : (s : List ℕ) (i b : ℕ) → byte s i ≡ b → 0 < b → i < length s
-byte_within s i b e p = ⊎_elim (λ h. h) (λ h. absurd (omega (arith, byte_past s i h))) (cases_lt i (length s))
-
-pub head : {b a : ℕ} → ◌≡◌ {A = List ℕ} (b ∷ []) (a ∷ []) → b ≡ a
-head e = ap (λ l. byte l 0) e
 
 -- the part from i on
 module _ (s : List ℕ) (i : ℕ) where

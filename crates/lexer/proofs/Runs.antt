@@ -8,17 +8,17 @@ use Rattle.text.specs.Names.{byte, Word}
 use Rattle.lexer.specs.declared.tokens.Token.{Token}
 use Rattle.lexer.specs.Gaps.{Pair}
 use Rattle.lexer.specs.Tokens.{Spells, Stands}
-use Rattle.lexer.proofs.Bytes.{first_byte, begins, long}
+use Rattle.lexer.proofs.Bytes.{begins, long}
 use Rattle.lexer.proofs.Sorts.{Form, word, dots, sign, form, mark_other}
 
 module _ (s : List ℕ) (i : ℕ) where
-  pub word_first : (j : ℕ) → i < j → j ≤ length s → Word (between i j s) → is_ascii_alphanumeric (byte s i) ≡ true
-  word_first j l m w = sym (ap is_ascii_alphanumeric (first_byte s i j l)) ∙ w 0 (omega (arith, length-between s i j m))
-
   pub word_inside : (j k : ℕ) → i ≤ k → k < j → j ≤ length s → Word (between i j s) → is_ascii_alphanumeric (byte s k) ≡ true
   word_inside j k a b m w =
       let e : i + (k - i) ≡ k = omega arith in
       sym (ap is_ascii_alphanumeric (get_or-between s i j (k - i) 0 (omega arith) ∙ ap (byte s) e)) ∙ w (k - i) (omega (arith, length-between s i j m))
+
+  pub word_first : (j : ℕ) → i < j → j ≤ length s → Word (between i j s) → is_ascii_alphanumeric (byte s i) ≡ true
+  word_first j l = word_inside j i (omega arith) l
 
 -- a token that stands in front
 module _ (s : List ℕ) (j : ℕ) (t : Token) (h : Stands s 0 j t) where

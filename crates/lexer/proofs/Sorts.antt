@@ -1,5 +1,5 @@
 -- What the bytes of a token are: a name, a number, a reserved word, `..` or a mark.
-use Rattle.std.proofs.Common.{◌≡◌, ℕ, zero, suc, ◌<◌, Bool, true, false, ◌&&◌, ◌||◌, eqb, List, [], ◌∷◌, length, codes, sym, refl, ap, ◌∙◌, subst, arith}
+use Rattle.std.proofs.Common.{◌≡◌, ℕ, zero, suc, ◌<◌, Bool, true, false, ◌&&◌, ◌||◌, eqb, List, [], ◌∷◌, length, codes, sym, refl, ap, ◌∙◌, subst, arith, rules}
 use Rattle.std.specs.Char.{is_ascii_digit, is_ascii_alphabetic, is_ascii_alphanumeric}
 use Rattle.std.proofs.lemmas.Bool.{both_ways, and_parts}
 use Rattle.std.proofs.lemmas.Bool.Decides.{nat_tests}
@@ -12,7 +12,6 @@ use Rattle.lexer.specs.declared.tokens.Token.TheVariants as token
 use Rattle.lexer.specs.Gaps.{blank}
 use Rattle.lexer.specs.Lexemes.{Lexeme, name, number, fixed, lexeme}
 use Rattle.lexer.specs.Tokens.{Numeral, Spells}
-use Rattle.lexer.proofs.Bytes.{head}
 
 -- the byte is a mark
 abbrev pub mark : ℕ → Bool
@@ -76,24 +75,10 @@ word_by (b ∷ bs) e zero h = (and_parts (is_ascii_alphanumeric b) (every bs) e)
 word_by (b ∷ bs) e (suc k) h = word_by bs (and_parts (is_ascii_alphanumeric b) (every bs) e).1 k (omega arith)
 
 spelling_every : (k : Keyword) → every (spelling k) ≡ true
-spelling_every keyword.Chip = refl
-spelling_every keyword.In = refl
-spelling_every keyword.Out = refl
-spelling_every keyword.Parts = refl
-spelling_every keyword.Builtin = refl
-spelling_every keyword.Clocked = refl
-spelling_every keyword.True = refl
-spelling_every keyword.False = refl
+spelling_every k = search rules
 
 spelling_letter : (k : Keyword) → is_ascii_alphabetic (byte (spelling k) 0) ≡ true
-spelling_letter keyword.Chip = refl
-spelling_letter keyword.In = refl
-spelling_letter keyword.Out = refl
-spelling_letter keyword.Parts = refl
-spelling_letter keyword.Builtin = refl
-spelling_letter keyword.Clocked = refl
-spelling_letter keyword.True = refl
-spelling_letter keyword.False = refl
+spelling_letter k = grind arith
 
 reserved_word : (bs : List ℕ) → Reserved bs → Word bs
 reserved_word bs r = subst Word (sym r.1) (word_by (spelling r.0) (spelling_every r.0))
@@ -107,15 +92,12 @@ pub data Form (bs : List ℕ) : Type 0 where
   dots : bs ≡ codes ".." → Form bs
   sign : (b : ℕ) → mark b ≡ true → bs ≡ (b ∷ []) → Form bs
 
-fixed_form : (bs : List ℕ) → Fixed bs → Form bs
-fixed_form bs (reserved r) = word (reserved_word bs r)
-fixed_form bs (dots e) = dots e
-fixed_form bs (sign b m e) = sign b m e
-
 sort_form : (i : ℕ) (bs : List ℕ) (w : Lexeme) → Sort i bs w → Form bs
 sort_form i bs w (named h e) = word h.word
 sort_form i bs w (numeral n h e) = word (λ k l. digit_alnum (byte bs k) (h.digits k l))
-sort_form i bs w (kept h e) = fixed_form bs h
+sort_form i bs w (kept (reserved r) e) = word (reserved_word bs r)
+sort_form i bs w (kept (dots d) e) = dots d
+sort_form i bs w (kept (sign b m d) e) = sign b m d
 
 pub form : (bs : List ℕ) (t : Token) → Spells bs t → Form bs
 form bs t h = sort_form 0 bs (lexeme 0 t) (sort 0 bs t h)
@@ -130,7 +112,7 @@ no_fixed bs some w free (sign b m e) = both_ways (is_ascii_alphanumeric b) (mark
 sign_mark : (b : ℕ) → is_ascii_alphanumeric b ≡ false → Form (b ∷ []) → mark b ≡ true
 sign_mark b a (word w) = absurd (both_ways (is_ascii_alphanumeric b) a (w 0 (omega arith)))
 sign_mark b a (dots e) = absurd (omega (arith, ap length e))
-sign_mark b a (sign c m e) = ap mark (head e) ∙ m
+sign_mark b a (sign c m e) = ap (λ l. mark (byte l 0)) e ∙ m
 
 pub token_mark : (b : ℕ) (t : Token) → is_ascii_alphanumeric b ≡ false → Spells (b ∷ []) t → mark b ≡ true
 token_mark b t a h = sign_mark b a (form (b ∷ []) t h)
