@@ -1,7 +1,7 @@
 -- Separators: each leads on, none stands past the end, and where they stop is one place alone.
-use Rattle.std.proofs.Common.{◌≡◌, ℕ, ◌-◌, ◌<◌, ◌≤◌, true, List, length, sym, refl, ap, ◌∙◌, subst, ⊎_elim, arith}
+use Rattle.std.proofs.Common.{◌≡◌, ℕ, ◌-◌, ◌<◌, ◌≤◌, true, List, length, refl, ap, subst, arith}
 use Rattle.std.proofs.lemmas.List.{get_or_past}
-use Rattle.std.proofs.lemmas.Bool.{cases_order, both_ways}
+use Rattle.std.proofs.lemmas.Bool.{both_ways}
 use Rattle.text.specs.Names.{byte}
 use Rattle.lexer.specs.Gaps.{blank, Line, Block, Separator, one, line, block, Gap, none, more}
 
@@ -24,21 +24,13 @@ gap_forward {s} (more {j} {k} g h) = omega (arith, gap_forward g, separator_forw
 
 -- two separators at one place are one
 line_line : (s : List ℕ) (i j k : ℕ) → Line s i j → Line s i k → j ≡ k
-line_line s i j k a b =
-    ⊎_elim (λ e. e) (⊎_elim
-    (λ l. absurd (b.inside j a.after l (a.ends (omega (arith, b.within)))))
-    (λ l. absurd (a.inside k b.after l (b.ends (omega (arith, a.within))))))
-    (cases_order j k)
+line_line s i j k a b = grind (arith, a.inside k, b.inside j, a.ends, b.ends, a.within, b.within, a.after, b.after)
 
 block_block : (s : List ℕ) (i j k : ℕ) → Block s i j → Block s i k → j ≡ k
-block_block s i j k a b =
-    ⊎_elim (λ e. e) (⊎_elim
-    (λ l. absurd (b.inside (j - 2) (omega (arith, a.after)) (omega (arith, a.after)) a.ends))
-    (λ l. absurd (a.inside (k - 2) (omega (arith, b.after)) (omega (arith, b.after)) b.ends)))
-    (cases_order j k)
+block_block s i j k a b = grind (arith, a.inside (k - 2), b.inside (j - 2), a.ends, b.ends, a.after, b.after)
 
 slash : (s : List ℕ) (i : ℕ) → blank (byte s i) ≡ true → byte s i ≡ 47 → ⊥
-slash s i b e = both_ways (blank 47) refl (sym (ap blank e) ∙ b)
+slash s i b e = grind arith
 
 one_separator : (s : List ℕ) (i j k : ℕ) → Separator s i j → Separator s i k → j ≡ k
 one_separator s i j k g h = grind (arith, slash s i, line_line s i j k, block_block s i j k)

@@ -21,7 +21,7 @@ mark b = eqb b 123 || (eqb b 125 || (eqb b 40 || (eqb b 41 || (eqb b 91 || (eqb 
 pub data Fixed (bs : List ℕ) : Type 0 where
   reserved : Reserved bs → Fixed bs
   dots : bs ≡ codes ".." → Fixed bs
-  sign : (b : ℕ) → mark b ≡ true → bs ≡ (b ∷ []) → Fixed bs
+  sign : (b : ℕ) → bs ≡ (b ∷ []) → mark b ≡ true → Fixed bs
 
 -- the bytes are a token, with the lexeme w at i
 pub data Sort (i : ℕ) (bs : List ℕ) (w : Lexeme) : Type 0 where
@@ -41,16 +41,7 @@ sort i bs token.Clocked h = kept (reserved (keyword.Clocked, h)) (ap fixed (sym 
 sort i bs token.True h = kept (reserved (keyword.True, h)) (ap fixed (sym h))
 sort i bs token.False h = kept (reserved (keyword.False, h)) (ap fixed (sym h))
 sort i bs token.Dots h = kept (dots h) (ap fixed (sym h))
-sort i bs token.OpenBrace h = kept (sign 123 refl h) (ap fixed (sym h))
-sort i bs token.CloseBrace h = kept (sign 125 refl h) (ap fixed (sym h))
-sort i bs token.OpenParen h = kept (sign 40 refl h) (ap fixed (sym h))
-sort i bs token.CloseParen h = kept (sign 41 refl h) (ap fixed (sym h))
-sort i bs token.OpenBracket h = kept (sign 91 refl h) (ap fixed (sym h))
-sort i bs token.CloseBracket h = kept (sign 93 refl h) (ap fixed (sym h))
-sort i bs token.Comma h = kept (sign 44 refl h) (ap fixed (sym h))
-sort i bs token.Semicolon h = kept (sign 59 refl h) (ap fixed (sym h))
-sort i bs token.Colon h = kept (sign 58 refl h) (ap fixed (sym h))
-sort i bs token.Equals h = kept (sign 61 refl h) (ap fixed (sym h))
+sort i bs t h = kept (sign _ h refl) (ap fixed (sym h))
 
 pub mark_other : (b : ℕ) → mark b ≡ true → is_ascii_alphanumeric b ≡ false
 mark_other b h = grind (arith, nat_tests)
@@ -97,22 +88,18 @@ sort_form i bs w (named h e) = word h.word
 sort_form i bs w (numeral n h e) = word (λ k l. digit_alnum (byte bs k) (h.digits k l))
 sort_form i bs w (kept (reserved r) e) = word (reserved_word bs r)
 sort_form i bs w (kept (dots d) e) = dots d
-sort_form i bs w (kept (sign b m d) e) = sign b m d
+sort_form i bs w (kept (sign b d m) e) = sign b m d
 
 pub form : (bs : List ℕ) (t : Token) → Spells bs t → Form bs
 form bs t h = sort_form 0 bs (lexeme 0 t) (sort 0 bs t h)
 
 -- a run of letters and digits is no mark
 pub no_fixed : (bs : List ℕ) → 0 < length bs → Word bs → (Reserved bs → ⊥) → Fixed bs → ⊥
-no_fixed bs some w free (reserved r) = free r
-no_fixed bs some w free (dots e) = both_ways (is_ascii_alphanumeric 46) refl (sym (ap (λ l. is_ascii_alphanumeric (byte l 0)) e) ∙ w 0 some)
-no_fixed bs some w free (sign b m e) = both_ways (is_ascii_alphanumeric b) (mark_other b m) (sym (ap (λ l. is_ascii_alphanumeric (byte l 0)) e) ∙ w 0 some)
+no_fixed bs some w free f = grind (arith, nat_tests, w 0, mark_other)
 
 -- a byte that is a token and no letter or digit is a mark
 sign_mark : (b : ℕ) → is_ascii_alphanumeric b ≡ false → Form (b ∷ []) → mark b ≡ true
-sign_mark b a (word w) = absurd (both_ways (is_ascii_alphanumeric b) a (w 0 (omega arith)))
-sign_mark b a (dots e) = absurd (omega (arith, ap length e))
-sign_mark b a (sign c m e) = ap (λ l. mark (byte l 0)) e ∙ m
+sign_mark b a f = grind (arith, both_ways, mark_other)
 
 pub token_mark : (b : ℕ) (t : Token) → is_ascii_alphanumeric b ≡ false → Spells (b ∷ []) t → mark b ≡ true
 token_mark b t a h = sign_mark b a (form (b ∷ []) t h)
