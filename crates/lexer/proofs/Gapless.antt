@@ -29,11 +29,8 @@ line_line s i j k a b = grind (arith, a.inside k, b.inside j, a.ends, b.ends, a.
 block_block : (s : List ℕ) (i j k : ℕ) → Block s i j → Block s i k → j ≡ k
 block_block s i j k a b = grind (arith, a.inside (k - 2), b.inside (j - 2), a.ends, b.ends, a.after, b.after)
 
-slash : (s : List ℕ) (i : ℕ) → blank (byte s i) ≡ true → byte s i ≡ 47 → ⊥
-slash s i b e = grind arith
-
 one_separator : (s : List ℕ) (i j k : ℕ) → Separator s i j → Separator s i k → j ≡ k
-one_separator s i j k g h = grind (arith, slash s i, line_line s i j k, block_block s i j k)
+one_separator s i j k g h = grind (arith, line_line s i j k, block_block s i j k)
 
 -- separators from the front
 data Chain (s : List ℕ) : ℕ → ℕ → Type 0 where

@@ -25,15 +25,15 @@ module _ (s t : List ℕ) (i j : ℕ) (e : drop i s ≡ drop j t) (m : i ≤ len
         starts = grind (arith, same i j, same (i + 1) (j + 1), x.starts);
         after = omega (arith, x.after);
         within = omega (arith, x.within, as_long);
-        inside = λ p a b f. x.inside (p + i - j) (omega arith) (omega arith) (same (p + i - j) p (omega arith) (omega arith) ∙ f);
-        ends = λ a. sym (same k l (omega (arith, x.after)) (omega (arith, x.after))) ∙ x.ends (omega (arith, as_long));
+        inside = λ p a b. grind (arith, same (p + i - j) p, x.inside (p + i - j));
+        ends = grind (arith, same k l, as_long, x.ends, x.after);
       })
   separator_moves k l h (block x) =
       block (record {
         starts = grind (arith, same i j, same (i + 1) (j + 1), x.starts);
         after = omega (arith, x.after);
         within = omega (arith, x.within, as_long);
-        inside = λ p a b f. x.inside (p + i - j) (omega arith) (omega arith) (grind (arith, same (p + i - j) p, same (p + i - j + 1) (p + 1)));
+        inside = λ p a b. grind (arith, same (p + i - j) p, same (p + i - j + 1) (p + 1), x.inside (p + i - j));
         ends = grind (arith, same (k - 2) (l - 2), same (k - 2 + 1) (l - 2 + 1), x.ends, x.after);
       })
 

@@ -20,19 +20,12 @@ alnum_stays b h = grind (arith, nat_tests)
 
 -- no separator begins as a token does
 module _ (s : List ℕ) (i : ℕ) where
-  start : (b : ℕ) → byte s i ≡ b → blank b ≡ false → (b ≡ 47 → ⊥) → (k : ℕ) → Separator s i k → ⊥
-  start b e n o = no_separator s i (λ h. both_ways (blank b) n (sym (ap blank e) ∙ h)) (λ h. o (sym e ∙ h))
-
-  form_start : (j : ℕ) (t : Token) → Stands s i j t → Form (between i j s) → (k : ℕ) → Separator s i k → ⊥
-  form_start j t h (word w) =
-      let a = word_first s i j h.after h.within w in
-      start (byte s i) refl (alnum_stays (byte s i) a) (λ k. both_ways (is_ascii_alphanumeric 47) refl (sym (ap is_ascii_alphanumeric k) ∙ a))
-  form_start j t h (dots d) = start 46 (begins s i j 46 _ h.after d) refl (λ e. omega arith)
-  form_start j t h (sign b m d) =
-      start b (begins s i j b [] h.after d) (mark_stays b m) (λ e. both_ways (mark 47) refl (sym (ap mark e) ∙ m))
-
   pub token_start : (j : ℕ) (t : Token) → Stands s i j t → (k : ℕ) → Separator s i k → ⊥
-  token_start j t h = form_start j t h (form (between i j s) t h.spells)
+  token_start j t h =
+      let f = form (between i j s) t h.spells in
+      no_separator s i
+      (grind (arith, both_ways, begins s i j, word_first s i j, alnum_stays (byte s i), mark_stays, h.after, h.within))
+      (grind (arith, nat_tests, both_ways, begins s i j, word_first s i j, h.after, h.within))
 
   -- a token at i ends at one place
   module _ (j k : ℕ) (t u : Token) (g : Stands s i j t) (h : Stands s i k u) where

@@ -98,8 +98,5 @@ pub no_fixed : (bs : List ℕ) → 0 < length bs → Word bs → (Reserved bs �
 no_fixed bs some w free f = grind (arith, nat_tests, w 0, mark_other)
 
 -- a byte that is a token and no letter or digit is a mark
-sign_mark : (b : ℕ) → is_ascii_alphanumeric b ≡ false → Form (b ∷ []) → mark b ≡ true
-sign_mark b a f = grind (arith, both_ways, mark_other)
-
 pub token_mark : (b : ℕ) (t : Token) → is_ascii_alphanumeric b ≡ false → Spells (b ∷ []) t → mark b ≡ true
-token_mark b t a h = sign_mark b a (form (b ∷ []) t h)
+token_mark b t a h = let f = form (b ∷ []) t h in grind (arith, both_ways, mark_other)
