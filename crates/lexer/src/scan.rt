@@ -103,9 +103,8 @@ fn mark<'a>(b: u8) -> Option<Token<'a>>
 
 /// The token in front, with its length.
 pub fn token(text: &[u8]) -> Option<(Token<'_>, usize)>
-    ensures { MatchOption result
-        ((j : ℕ) (t : Token) → Stands text.now 0 j t → ⊥)
-        (λ p. Stands text.now 0 p.1 p.0) }
+    ensures none { IfNone result ((j : ℕ) (t : Token) → Stands text.now 0 j t → ⊥) }
+    ensures some { IfSome result (λ p. Stands text.now 0 p.1 p.0) }
 {
     match text {
         [] => None,
