@@ -6,9 +6,7 @@ use std::test::Fail;
 /// Whether the text is tokens of these kinds, with nothing but separators besides.
 fn reads(text: &[u8], kinds: &[Kind]) -> bool {
     let mut lexer = Lexer::new(0, text);
-    kinds
-        .iter()
-        .all(|kind| matches!(lexer.next(), Ok(Some(token)) if token.kind() == *kind))
+    kinds.iter().all(|kind| matches!(lexer.next(), Ok(Some(token)) if token.kind() == *kind))
         && matches!(lexer.next(), Ok(None))
         && lexer.place().byte == text.len()
 }
