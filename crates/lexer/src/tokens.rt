@@ -32,8 +32,8 @@ pub enum Token<'a> {
     Equals,
 }
 
-/// What a token is, without what it holds: the rules of a text compare kinds and match on them, and
-/// `std::mem::discriminant` gives nothing to match on.
+/// What a token is, without what it holds.
+// The rules of a text compare with kinds by name, and `std::mem::discriminant` has no such names.
 #[derive(Clone, Copy, Debug, PartialEq, Eq)]
 pub enum Kind {
     Name,
