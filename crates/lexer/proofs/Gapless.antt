@@ -3,12 +3,18 @@ use Rattle.std.proofs.Common.{◌≡◌, ℕ, ◌-◌, ◌<◌, ◌≤◌, true,
 use Rattle.std.proofs.lemmas.List.{get_or_past}
 use Rattle.std.proofs.lemmas.Bool.{both_ways}
 use Rattle.text.specs.Names.{byte}
-use Rattle.lexer.specs.Gaps.{blank, Line, Block, Separator, one, line, block, Gap, none, more}
+use Rattle.lexer.specs.Gaps.{blank, Pair, Line, Block, Separator, one, line, block, Gap, none, more}
 
 pub no_separator : (s : List ℕ) (i : ℕ) → (blank (byte s i) ≡ true → ⊥) → (byte s i ≡ 47 → ⊥) → (k : ℕ) → Separator s i k → ⊥
 no_separator s i b c k (one h e) = b h
 no_separator s i b c k (line l) = c l.starts.0
 no_separator s i b c k (block l) = c l.starts.0
+
+-- a comment that is not closed is no separator
+pub unclosed : (s : List ℕ) → byte s 0 ≡ 47 → byte s 1 ≡ 42 → ((k : ℕ) → 2 ≤ k → Pair 42 47 s k → ⊥) → (k : ℕ) → Separator s 0 k → ⊥
+unclosed s a b apart k (one h e) = grind arith
+unclosed s a b apart k (line l) = omega (arith, l.starts.1)
+unclosed s a b apart k (block l) = apart (k - 2) (omega (arith, l.after)) l.ends
 
 pub no_separator_past : (s : List ℕ) (i k : ℕ) → length s ≤ i → Separator s i k → ⊥
 no_separator_past s i k h =
