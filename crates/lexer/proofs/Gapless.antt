@@ -1,24 +1,28 @@
 -- Separators: each leads on, none stands past the end, and where they stop is one place alone.
-use Rattle.std.proofs.Common.{◌≡◌, ℕ, ◌-◌, ◌<◌, ◌≤◌, true, List, length, sym, refl, ap, ◌∙◌, subst, ⊎_elim, arith}
-use Rattle.std.proofs.lemmas.Bool.{cases_order, both_ways}
+use Rattle.std.proofs.Common.{◌≡◌, ℕ, ◌-◌, ◌<◌, ◌≤◌, true, List, length, refl, ap, subst, arith}
+use Rattle.std.proofs.lemmas.List.{get_or_past}
+use Rattle.std.proofs.lemmas.Bool.{both_ways}
 use Rattle.text.specs.Names.{byte}
-use Rattle.lexer.specs.Gaps.{blank, Line, Block, Separator, one, line, block, Gap, none, more}
-use Rattle.lexer.proofs.Bytes.{byte_past, byte_within}
-
-pub no_separator_past : (s : List ℕ) (i k : ℕ) → length s ≤ i → Separator s i k → ⊥
-no_separator_past s i k h (one b e) = both_ways (blank (byte s i)) (ap blank (byte_past s i h)) b
-no_separator_past s i k h (line l) = omega (arith, byte_within s i 47 l.starts.0 (omega arith))
-no_separator_past s i k h (block l) = omega (arith, byte_within s i 47 l.starts.0 (omega arith))
+use Rattle.lexer.specs.Gaps.{blank, Pair, Line, Block, Separator, one, line, block, Gap, none, more}
 
 pub no_separator : (s : List ℕ) (i : ℕ) → (blank (byte s i) ≡ true → ⊥) → (byte s i ≡ 47 → ⊥) → (k : ℕ) → Separator s i k → ⊥
 no_separator s i b c k (one h e) = b h
 no_separator s i b c k (line l) = c l.starts.0
 no_separator s i b c k (block l) = c l.starts.0
 
+-- a comment that is not closed is no separator
+pub unclosed : (s : List ℕ) → byte s 0 ≡ 47 → byte s 1 ≡ 42 → ((k : ℕ) → 2 ≤ k → Pair 42 47 s k → ⊥) → (k : ℕ) → Separator s 0 k → ⊥
+unclosed s a b apart k (one h e) = grind arith
+unclosed s a b apart k (line l) = omega (arith, l.starts.1)
+unclosed s a b apart k (block l) = apart (k - 2) (omega (arith, l.after)) l.ends
+
+pub no_separator_past : (s : List ℕ) (i k : ℕ) → length s ≤ i → Separator s i k → ⊥
+no_separator_past s i k h =
+    let zero : byte s i ≡ 0 = get_or_past s i 0 h in
+    no_separator s i (λ b. both_ways (blank (byte s i)) (ap blank zero) b) (λ e. omega arith) k
+
 separator_forward : (s : List ℕ) (i j : ℕ) → Separator s i j → i < j
-separator_forward s i j (one b e) = omega arith
-separator_forward s i j (line l) = omega (arith, l.after)
-separator_forward s i j (block l) = omega (arith, l.after)
+separator_forward s i j h = grind arith
 
 pub gap_forward : {s : List ℕ} {i j : ℕ} → Gap s i j → i ≤ j
 gap_forward none = omega arith
@@ -26,32 +30,13 @@ gap_forward {s} (more {j} {k} g h) = omega (arith, gap_forward g, separator_forw
 
 -- two separators at one place are one
 line_line : (s : List ℕ) (i j k : ℕ) → Line s i j → Line s i k → j ≡ k
-line_line s i j k a b =
-    ⊎_elim (λ e. e) (⊎_elim
-    (λ l. absurd (b.inside j a.after l (a.ends (omega (arith, b.within)))))
-    (λ l. absurd (a.inside k b.after l (b.ends (omega (arith, a.within))))))
-    (cases_order j k)
+line_line s i j k a b = grind (arith, a.inside k, b.inside j, a.ends, b.ends, a.within, b.within, a.after, b.after)
 
 block_block : (s : List ℕ) (i j k : ℕ) → Block s i j → Block s i k → j ≡ k
-block_block s i j k a b =
-    ⊎_elim (λ e. e) (⊎_elim
-    (λ l. absurd (b.inside (j - 2) (omega (arith, a.after)) (omega (arith, a.after)) a.ends))
-    (λ l. absurd (a.inside (k - 2) (omega (arith, b.after)) (omega (arith, b.after)) b.ends)))
-    (cases_order j k)
-
-slash : (s : List ℕ) (i : ℕ) → blank (byte s i) ≡ true → byte s i ≡ 47 → ⊥
-slash s i b e = both_ways (blank 47) refl (sym (ap blank e) ∙ b)
+block_block s i j k a b = grind (arith, a.inside (k - 2), b.inside (j - 2), a.ends, b.ends, a.after, b.after)
 
 one_separator : (s : List ℕ) (i j k : ℕ) → Separator s i j → Separator s i k → j ≡ k
-one_separator s i j k (one b e) (one c f) = e ∙ sym f
-one_separator s i j k (one b e) (line l) = absurd (slash s i b l.starts.0)
-one_separator s i j k (one b e) (block l) = absurd (slash s i b l.starts.0)
-one_separator s i j k (line l) (one b e) = absurd (slash s i b l.starts.0)
-one_separator s i j k (line l) (line m) = line_line s i j k l m
-one_separator s i j k (line l) (block m) = absurd (omega (arith, l.starts.1, m.starts.1))
-one_separator s i j k (block l) (one b e) = absurd (slash s i b l.starts.0)
-one_separator s i j k (block l) (line m) = absurd (omega (arith, l.starts.1, m.starts.1))
-one_separator s i j k (block l) (block m) = block_block s i j k l m
+one_separator s i j k g h = grind (arith, line_line s i j k, block_block s i j k)
 
 -- separators from the front
 data Chain (s : List ℕ) : ℕ → ℕ → Type 0 where

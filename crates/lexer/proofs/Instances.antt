@@ -1,10 +1,9 @@
 -- A text of two lexemes, an end behind a comment, and a comment that is not closed.
-use Rattle.std.proofs.Common.{◌≡◌, ℕ, List, [], ◌∷◌, codes, refl, ap, arith, Bor}
+use Rattle.std.proofs.Common.{◌≡◌, ℕ, List, [], ◌∷◌, codes, refl, arith, Bor}
 use Rattle.std.proofs.lemmas.Bool.{both_ways}
 use Rattle.text.specs.Keywords.{spelling}
-use Rattle.text.specs.Names.{byte, Named}
+use Rattle.text.specs.Names.{Named}
 use Rattle.text.specs.declared.keyword.Keyword.{Keyword}
-use Rattle.text.specs.declared.keyword.Keyword.TheVariants as keyword
 use Rattle.lexer.specs.declared.tokens.Token.{Token}
 use Rattle.lexer.specs.declared.tokens.Token.TheVariants.{Name, Semicolon}
 use Rattle.lexer.specs.Gaps.{Separator, one, line, block, none, more}
@@ -20,14 +19,7 @@ ab = record { ref_ptr = (0, 0); now = codes "ab" }
 
 -- no reserved word begins with `a`
 other : (k : Keyword) → codes "ab" ≡ spelling k → ⊥
-other keyword.Chip e = omega (arith, ap (λ l. byte l 0) e)
-other keyword.In e = omega (arith, ap (λ l. byte l 0) e)
-other keyword.Out e = omega (arith, ap (λ l. byte l 0) e)
-other keyword.Parts e = omega (arith, ap (λ l. byte l 0) e)
-other keyword.Builtin e = omega (arith, ap (λ l. byte l 0) e)
-other keyword.Clocked e = omega (arith, ap (λ l. byte l 0) e)
-other keyword.True e = omega (arith, ap (λ l. byte l 0) e)
-other keyword.False e = omega (arith, ap (λ l. byte l 0) e)
+other k e = grind arith
 
 ab_named : Named (codes "ab")
 ab_named =
@@ -60,4 +52,4 @@ a_fault = record { gap = none; within = omega arith; no_separator = no_separator
     no_separator j (block l) = omega (arith, l.after, l.within)
 
     no_token : (j : ℕ) (t : Token) → Stands (codes "/*/") 0 j t → ⊥
-    no_token j t h = both_ways (mark 47) refl (token_mark 47 t refl (mark_token (codes "/*/") 0 j t refl (λ p. omega (arith, p.0)) h))
+    no_token j t h = both_ways (mark 47) refl (token_mark 47 t refl (mark_token (codes "/*/") j t h refl (λ p. omega (arith, p.0))))

@@ -1,4 +1,5 @@
 pub mod Bytes
+pub mod Rests
 pub mod Sorts
 pub mod Runs
 pub mod Numerals

@@ -1,8 +1,8 @@
 -- From each place there is one next token, the end, or a fault, and not two of these.
-use Rattle.std.proofs.Common.{◌≡◌, ℕ, true, false, List, [], ◌∷◌, length, sym, refl, ap, ◌∙◌, subst, ⊎_elim, arith}
+use Rattle.std.proofs.Common.{◌≡◌, ℕ, true, false, List, length, sym, ap, ◌∙◌, subst, arith}
 use Rattle.std.specs.Char.{is_ascii_alphanumeric}
 use Rattle.std.specs.List.{between}
-use Rattle.std.proofs.lemmas.Bool.{cases_order, both_ways}
+use Rattle.std.proofs.lemmas.Bool.{both_ways}
 use Rattle.std.proofs.lemmas.Bool.Decides.{nat_tests}
 use Rattle.text.specs.Names.{byte, Named}
 use Rattle.lexer.specs.declared.tokens.Token.{Token}
@@ -10,79 +10,49 @@ use Rattle.lexer.specs.Gaps.{blank, Separator}
 use Rattle.lexer.specs.Lexemes.{Lexeme, number, lexeme}
 use Rattle.lexer.specs.Steps.{Gives, Ends, Fails}
 use Rattle.lexer.specs.Tokens.{Numeral, Spells, Stands}
-use Rattle.lexer.proofs.Bytes.{begins, long}
 use Rattle.lexer.proofs.Gapless.{no_separator_past, no_separator, one_gap}
-use Rattle.lexer.proofs.Runs.{word_first, word_inside}
-use Rattle.lexer.proofs.Sorts.{Form, word, dots, sign, form, mark, mark_other, mark_stays, Fixed, Sort, named, numeral, kept, sort, no_fixed, digit_letter, digit_alnum, reserved_letter}
+use Rattle.lexer.proofs.Runs.{shape}
+use Rattle.lexer.proofs.Sorts.{mark_other, mark_stays, Fixed, Sort, named, numeral, kept, sort, no_fixed, digit_letter, digit_alnum, reserved_letter}
 
 alnum_stays : (b : ℕ) → is_ascii_alphanumeric b ≡ true → blank b ≡ false
 alnum_stays b h = grind (arith, nat_tests)
 
--- no separator begins as a token does
 module _ (s : List ℕ) (i : ℕ) where
-  start : (b : ℕ) → byte s i ≡ b → blank b ≡ false → (b ≡ 47 → ⊥) → (k : ℕ) → Separator s i k → ⊥
-  start b e n o = no_separator s i (λ h. both_ways (blank b) n (sym (ap blank e) ∙ h)) (λ h. o (sym e ∙ h))
-
-  form_start : (j : ℕ) (t : Token) → Stands s i j t → Form (between i j s) → (k : ℕ) → Separator s i k → ⊥
-  form_start j t h (word w) =
-      let a = word_first s i j h.after h.within w in
-      start (byte s i) refl (alnum_stays (byte s i) a) (λ k. both_ways (is_ascii_alphanumeric 47) refl (sym (ap is_ascii_alphanumeric k) ∙ a))
-  form_start j t h (dots d) = start 46 (begins s i j 46 _ h.after d) refl (λ e. omega arith)
-  form_start j t h (sign b m d) =
-      start b (begins s i j b [] h.after d) (mark_stays b m) (λ e. both_ways (mark 47) refl (sym (ap mark e) ∙ m))
-
+  -- no separator begins as a token does
   pub token_start : (j : ℕ) (t : Token) → Stands s i j t → (k : ℕ) → Separator s i k → ⊥
-  token_start j t h = form_start j t h (form (between i j s) t h.spells)
+  token_start j t h =
+      let f = shape s i j t h in
+      no_separator s i (grind (arith, both_ways, alnum_stays (byte s i), mark_stays (byte s i))) (grind (arith, nat_tests))
 
   -- a token at i ends at one place
-  module _ (j k : ℕ) (t u : Token) (g : Stands s i j t) (h : Stands s i k u) where
-    other_word : (b : ℕ) → byte s i ≡ b → is_ascii_alphanumeric b ≡ false → is_ascii_alphanumeric (byte s i) ≡ true → j ≡ k
-    other_word b e n a = absurd (both_ways (is_ascii_alphanumeric b) n (sym (ap is_ascii_alphanumeric e) ∙ a))
-
-    dot_mark : (b : ℕ) → mark b ≡ true → byte s i ≡ b → byte s i ≡ 46 → j ≡ k
-    dot_mark b m e d = absurd (both_ways (mark 46) refl (ap mark (sym d ∙ e) ∙ m))
-
-    form_end : Form (between i j s) → Form (between i k s) → j ≡ k
-    form_end (word v) (word w) =
-        let a = word_first s i j g.after g.within v in
-        ⊎_elim (λ e. e) (⊎_elim
-        (λ l. absurd (both_ways _ (g.whole a) (word_inside s i k j (omega (arith, g.after)) l h.within w)))
-        (λ l. absurd (both_ways _ (h.whole a) (word_inside s i j k (omega (arith, h.after)) l g.within v))))
-        (cases_order j k)
-    form_end (word v) (dots e) = other_word 46 (begins s i k 46 _ h.after e) refl (word_first s i j g.after g.within v)
-    form_end (word v) (sign b m e) = other_word b (begins s i k b [] h.after e) (mark_other b m) (word_first s i j g.after g.within v)
-    form_end (dots d) (word w) = other_word 46 (begins s i j 46 _ g.after d) refl (word_first s i k h.after h.within w)
-    form_end (sign b m d) (word w) = other_word b (begins s i j b [] g.after d) (mark_other b m) (word_first s i k h.after h.within w)
-    form_end (dots d) (dots e) = long s i j _ g.after g.within d ∙ sym (long s i k _ h.after h.within e)
-    form_end (dots d) (sign b m e) = dot_mark b m (begins s i k b [] h.after e) (begins s i j 46 _ g.after d)
-    form_end (sign b m d) (dots e) = dot_mark b m (begins s i j b [] g.after d) (begins s i k 46 _ h.after e)
-    form_end (sign b m d) (sign c n e) = long s i j (b ∷ []) g.after g.within d ∙ sym (long s i k (c ∷ []) h.after h.within e)
-
-    pub token_end : j ≡ k
-    token_end = form_end (form (between i j s) t g.spells) (form (between i k s) u h.spells)
+  pub token_end : (j k : ℕ) (t u : Token) → Stands s i j t → Stands s i k u → j ≡ k
+  token_end j k t u g h =
+      let a = shape s i j t g in
+      let b = shape s i k u h in
+      grind (arith, both_ways, mark_other, g.after, h.after)
 
 -- the same bytes are one lexeme
 module _ (i : ℕ) (bs : List ℕ) (v w : Lexeme) where
-  named_numeral : (n : ℕ) → Named bs → Numeral bs n → v ≡ w
-  named_numeral n h g = absurd (digit_letter (byte bs 0) (g.digits 0 g.some) h.first)
+  named_numeral : (n : ℕ) → Named bs → Numeral bs n → ⊥
+  named_numeral n h g = digit_letter (byte bs 0) (g.digits 0 g.some) h.first
 
-  named_kept : Named bs → Fixed bs → v ≡ w
-  named_kept h f = absurd (no_fixed bs h.some h.word h.free f)
+  named_kept : Named bs → Fixed bs → ⊥
+  named_kept h f = no_fixed bs h.some h.word h.free f
 
-  numeral_kept : (n : ℕ) → Numeral bs n → Fixed bs → v ≡ w
+  numeral_kept : (n : ℕ) → Numeral bs n → Fixed bs → ⊥
   numeral_kept n g f =
-      absurd (no_fixed bs g.some (λ k l. digit_alnum (byte bs k) (g.digits k l))
-      (λ r. digit_letter (byte bs 0) (g.digits 0 g.some) (reserved_letter bs r)) f)
+      no_fixed bs g.some (λ k l. digit_alnum (byte bs k) (g.digits k l))
+      (λ r. digit_letter (byte bs 0) (g.digits 0 g.some) (reserved_letter bs r)) f
 
   one_sort : Sort i bs v → Sort i bs w → v ≡ w
   one_sort (named h e) (named g d) = e ∙ sym d
-  one_sort (named h e) (numeral n g d) = named_numeral n h g
-  one_sort (named h e) (kept f d) = named_kept h f
-  one_sort (numeral n g d) (named h e) = named_numeral n h g
+  one_sort (named h e) (numeral n g d) = absurd (named_numeral n h g)
+  one_sort (named h e) (kept f d) = absurd (named_kept h f)
+  one_sort (numeral n g d) (named h e) = absurd (named_numeral n h g)
   one_sort (numeral n g d) (numeral m h e) = d ∙ ap number (sym g.worth ∙ h.worth) ∙ sym e
-  one_sort (numeral n g d) (kept f e) = numeral_kept n g f
-  one_sort (kept f d) (named h e) = named_kept h f
-  one_sort (kept f d) (numeral n g e) = numeral_kept n g f
+  one_sort (numeral n g d) (kept f e) = absurd (numeral_kept n g f)
+  one_sort (kept f d) (named h e) = absurd (named_kept h f)
+  one_sort (kept f d) (numeral n g e) = absurd (numeral_kept n g f)
   one_sort (kept f d) (kept g e) = d ∙ sym e
 
 -- the next token, the end and the fault are one

@@ -1,5 +1,5 @@
 -- What the bytes of a token are: a name, a number, a reserved word, `..` or a mark.
-use Rattle.std.proofs.Common.{◌≡◌, ℕ, zero, suc, ◌<◌, Bool, true, false, ◌&&◌, ◌||◌, eqb, List, [], ◌∷◌, length, codes, sym, refl, ap, ◌∙◌, subst, arith}
+use Rattle.std.proofs.Common.{◌≡◌, ℕ, zero, suc, ◌<◌, Bool, true, false, ◌&&◌, ◌||◌, eqb, List, [], ◌∷◌, length, codes, sym, refl, ap, ◌∙◌, subst, arith, rules}
 use Rattle.std.specs.Char.{is_ascii_digit, is_ascii_alphabetic, is_ascii_alphanumeric}
 use Rattle.std.proofs.lemmas.Bool.{both_ways, and_parts}
 use Rattle.std.proofs.lemmas.Bool.Decides.{nat_tests}
@@ -12,7 +12,6 @@ use Rattle.lexer.specs.declared.tokens.Token.TheVariants as token
 use Rattle.lexer.specs.Gaps.{blank}
 use Rattle.lexer.specs.Lexemes.{Lexeme, name, number, fixed, lexeme}
 use Rattle.lexer.specs.Tokens.{Numeral, Spells}
-use Rattle.lexer.proofs.Bytes.{head}
 
 -- the byte is a mark
 abbrev pub mark : ℕ → Bool
@@ -22,7 +21,7 @@ mark b = eqb b 123 || (eqb b 125 || (eqb b 40 || (eqb b 41 || (eqb b 91 || (eqb 
 pub data Fixed (bs : List ℕ) : Type 0 where
   reserved : Reserved bs → Fixed bs
   dots : bs ≡ codes ".." → Fixed bs
-  sign : (b : ℕ) → mark b ≡ true → bs ≡ (b ∷ []) → Fixed bs
+  sign : (b : ℕ) → bs ≡ (b ∷ []) → mark b ≡ true → Fixed bs
 
 -- the bytes are a token, with the lexeme w at i
 pub data Sort (i : ℕ) (bs : List ℕ) (w : Lexeme) : Type 0 where
@@ -42,16 +41,7 @@ sort i bs token.Clocked h = kept (reserved (keyword.Clocked, h)) (ap fixed (sym 
 sort i bs token.True h = kept (reserved (keyword.True, h)) (ap fixed (sym h))
 sort i bs token.False h = kept (reserved (keyword.False, h)) (ap fixed (sym h))
 sort i bs token.Dots h = kept (dots h) (ap fixed (sym h))
-sort i bs token.OpenBrace h = kept (sign 123 refl h) (ap fixed (sym h))
-sort i bs token.CloseBrace h = kept (sign 125 refl h) (ap fixed (sym h))
-sort i bs token.OpenParen h = kept (sign 40 refl h) (ap fixed (sym h))
-sort i bs token.CloseParen h = kept (sign 41 refl h) (ap fixed (sym h))
-sort i bs token.OpenBracket h = kept (sign 91 refl h) (ap fixed (sym h))
-sort i bs token.CloseBracket h = kept (sign 93 refl h) (ap fixed (sym h))
-sort i bs token.Comma h = kept (sign 44 refl h) (ap fixed (sym h))
-sort i bs token.Semicolon h = kept (sign 59 refl h) (ap fixed (sym h))
-sort i bs token.Colon h = kept (sign 58 refl h) (ap fixed (sym h))
-sort i bs token.Equals h = kept (sign 61 refl h) (ap fixed (sym h))
+sort i bs t h = kept (sign _ h refl) (ap fixed (sym h))
 
 pub mark_other : (b : ℕ) → mark b ≡ true → is_ascii_alphanumeric b ≡ false
 mark_other b h = grind (arith, nat_tests)
@@ -76,24 +66,10 @@ word_by (b ∷ bs) e zero h = (and_parts (is_ascii_alphanumeric b) (every bs) e)
 word_by (b ∷ bs) e (suc k) h = word_by bs (and_parts (is_ascii_alphanumeric b) (every bs) e).1 k (omega arith)
 
 spelling_every : (k : Keyword) → every (spelling k) ≡ true
-spelling_every keyword.Chip = refl
-spelling_every keyword.In = refl
-spelling_every keyword.Out = refl
-spelling_every keyword.Parts = refl
-spelling_every keyword.Builtin = refl
-spelling_every keyword.Clocked = refl
-spelling_every keyword.True = refl
-spelling_every keyword.False = refl
+spelling_every k = search rules
 
 spelling_letter : (k : Keyword) → is_ascii_alphabetic (byte (spelling k) 0) ≡ true
-spelling_letter keyword.Chip = refl
-spelling_letter keyword.In = refl
-spelling_letter keyword.Out = refl
-spelling_letter keyword.Parts = refl
-spelling_letter keyword.Builtin = refl
-spelling_letter keyword.Clocked = refl
-spelling_letter keyword.True = refl
-spelling_letter keyword.False = refl
+spelling_letter k = grind arith
 
 reserved_word : (bs : List ℕ) → Reserved bs → Word bs
 reserved_word bs r = subst Word (sym r.1) (word_by (spelling r.0) (spelling_every r.0))
@@ -107,40 +83,20 @@ pub data Form (bs : List ℕ) : Type 0 where
   dots : bs ≡ codes ".." → Form bs
   sign : (b : ℕ) → mark b ≡ true → bs ≡ (b ∷ []) → Form bs
 
-fixed_form : (bs : List ℕ) → Fixed bs → Form bs
-fixed_form bs (reserved r) = word (reserved_word bs r)
-fixed_form bs (dots e) = dots e
-fixed_form bs (sign b m e) = sign b m e
-
 sort_form : (i : ℕ) (bs : List ℕ) (w : Lexeme) → Sort i bs w → Form bs
 sort_form i bs w (named h e) = word h.word
 sort_form i bs w (numeral n h e) = word (λ k l. digit_alnum (byte bs k) (h.digits k l))
-sort_form i bs w (kept h e) = fixed_form bs h
+sort_form i bs w (kept (reserved r) e) = word (reserved_word bs r)
+sort_form i bs w (kept (dots d) e) = dots d
+sort_form i bs w (kept (sign b d m) e) = sign b m d
 
 pub form : (bs : List ℕ) (t : Token) → Spells bs t → Form bs
 form bs t h = sort_form 0 bs (lexeme 0 t) (sort 0 bs t h)
 
 -- a run of letters and digits is no mark
 pub no_fixed : (bs : List ℕ) → 0 < length bs → Word bs → (Reserved bs → ⊥) → Fixed bs → ⊥
-no_fixed bs some w free (reserved r) = free r
-no_fixed bs some w free (dots e) = both_ways (is_ascii_alphanumeric 46) refl (sym (ap (λ l. is_ascii_alphanumeric (byte l 0)) e) ∙ w 0 some)
-no_fixed bs some w free (sign b m e) = both_ways (is_ascii_alphanumeric b) (mark_other b m) (sym (ap (λ l. is_ascii_alphanumeric (byte l 0)) e) ∙ w 0 some)
-
--- a word that is no reserved word, no name and no number is no token
-module _ (bs : List ℕ) (some : 0 < length bs) (w : Word bs) (free : Reserved bs → ⊥) (unnamed : Named bs → ⊥) (wordy : (n : ℕ) → Numeral bs n → ⊥) where
-  no_sort : (v : Lexeme) → Sort 0 bs v → ⊥
-  no_sort v (named h e) = unnamed h
-  no_sort v (numeral n h e) = wordy n h
-  no_sort v (kept h e) = no_fixed bs some w free h
-
-  pub no_word : (t : Token) → Spells bs t → ⊥
-  no_word t h = no_sort (lexeme 0 t) (sort 0 bs t h)
+no_fixed bs some w free f = grind (arith, nat_tests, w 0, mark_other)
 
 -- a byte that is a token and no letter or digit is a mark
-sign_mark : (b : ℕ) → is_ascii_alphanumeric b ≡ false → Form (b ∷ []) → mark b ≡ true
-sign_mark b a (word w) = absurd (both_ways (is_ascii_alphanumeric b) a (w 0 (omega arith)))
-sign_mark b a (dots e) = absurd (omega (arith, ap length e))
-sign_mark b a (sign c m e) = ap mark (head e) ∙ m
-
 pub token_mark : (b : ℕ) (t : Token) → is_ascii_alphanumeric b ≡ false → Spells (b ∷ []) t → mark b ≡ true
-token_mark b t a h = sign_mark b a (form (b ∷ []) t h)
+token_mark b t a h = let f = form (b ∷ []) t h in grind (arith, both_ways, mark_other)

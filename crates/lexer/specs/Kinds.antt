@@ -30,30 +30,6 @@ kind_of token.Semicolon = kind.Semicolon
 kind_of token.Colon = kind.Colon
 kind_of token.Equals = kind.Equals
 
--- the place of a kind among the kinds
-abbrev pub place_of : Kind → ℕ
-place_of kind.Name = 0
-place_of kind.Number = 1
-place_of kind.Chip = 2
-place_of kind.In = 3
-place_of kind.Out = 4
-place_of kind.Parts = 5
-place_of kind.Builtin = 6
-place_of kind.Clocked = 7
-place_of kind.True = 8
-place_of kind.False = 9
-place_of kind.Dots = 10
-place_of kind.OpenBrace = 11
-place_of kind.CloseBrace = 12
-place_of kind.OpenParen = 13
-place_of kind.CloseParen = 14
-place_of kind.OpenBracket = 15
-place_of kind.CloseBracket = 16
-place_of kind.Comma = 17
-place_of kind.Semicolon = 18
-place_of kind.Colon = 19
-place_of kind.Equals = 20
-
 -- how the kind is written; names and numbers have no one spelling
 abbrev pub spelled : Kind → List ℕ
 spelled kind.Name = []

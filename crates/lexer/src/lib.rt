@@ -59,19 +59,16 @@ impl<'a> Lexer<'a> {
             self.end = first;
             return Ok(None);
         }
-        match scan::token_at(text, first) {
-            Some((token, end)) => {
-                self.first = first;
-                self.end = end;
-                Ok(Some(token))
-            }
-            None => Err(LexFault {
-                place: Place {
-                    entry: self.entry,
-                    byte: first,
-                },
-            }),
-        }
+        let refusal = LexFault {
+            place: Place {
+                entry: self.entry,
+                byte: first,
+            },
+        };
+        let (token, len) = scan::token(&text[first..]).ok_or(refusal)?;
+        self.first = first;
+        self.end = first + len;
+        Ok(Some(token))
     }
 }
 

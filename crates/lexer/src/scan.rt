@@ -1,84 +1,34 @@
-//! Where a separator or a token that stands at a place ends.
-ghost use Rattle.std.specs.Prelude.{◌≡◌, ℕ, ◌+◌, ◌-◌, ◌<◌, ◌≤◌, true, false, [], ◌∷◌, length, MatchBool, MatchOption, ◌≢◌};
+//! What stands at the front of a text, a separator or a token, and how many bytes it is.
+ghost use Rattle.std.specs.Prelude.{◌≡◌, ℕ, ◌<◌, ◌≤◌, true, false, [], ◌∷◌, length, MatchOption, IfNone, IfSome};
 ghost use Rattle.std.specs.Char.{is_ascii_alphanumeric};
-ghost use Rattle.text.specs.Keywords.{spelling};
 ghost use Rattle.text.specs.Names.{byte, Word};
-ghost use Rattle.lexer.specs.Gaps.{blank, Gap, Pair, Separator};
+ghost use Rattle.lexer.specs.Gaps.{Gap, Pair, Separator};
 ghost use Rattle.lexer.specs.Tokens.{Numeral, Spells, Stands};
 
 use crate::tokens::Token;
 use text::Keyword;
 
-/// The largest number that a text may hold.
-const MAX_NUMBER: u32 = 65_535;
-
-/// The place of the first newline from `i` on, or the text's end.
-fn line_end(text: &[u8], i: usize) -> usize
-    requires { i ≤ length text.now }
-    ensures after { i ≤ result }
-    ensures within { result ≤ length text.now }
-    ensures inside { (k : ℕ) → i ≤ k → k < result → byte text.now k ≢ 10 }
-    ensures ends { result < length text.now → byte text.now result ≡ 10 }
+/// How many bytes stand in front of the first `*/`, if there is one.
+fn comment_len(text: &[u8]) -> Option<usize>
+    ensures open { IfNone result ((k : ℕ) → Pair 42 47 text.now k → ⊥) }
+    ensures closed { IfSome result (λ n. Pair 42 47 text.now n) }
+    ensures first { IfSome result (λ n. (k : ℕ) → k < n → Pair 42 47 text.now k → ⊥) }
 {
-    let mut end = i;
-    while end < text.len() && text[end] != b'\n' {
-        end += 1;
-    }
-    end
+    text.windows(2)
+        .position(|pair| matches!(pair, [b'*', b'/']))
 }
 
-/// Whether the bytes `a` and `b` stand at `i`.
-fn pair_at(text: &[u8], i: usize, a: u8, b: u8) -> bool
-    requires { (i ≤ length text.now) × (0 < b) }
-    ensures { MatchBool result ((i + 2 ≤ length text.now) × Pair a b text.now i) (Pair a b text.now i → ⊥) }
+/// How long the separator in front is, if one stands there.
+fn separator_len(text: &[u8]) -> Option<usize>
+    ensures none { IfNone result ((k : ℕ) → Separator text.now 0 k → ⊥) }
+    ensures some { IfSome result (λ k. Separator text.now 0 k) }
+    ensures within { IfSome result (λ k. (0 < k) × (k ≤ length text.now)) }
 {
-    if text.len() - i < 2 {
-        return false;
-    }
-    text[i] == a && text[i + 1] == b
-}
-
-/// The place behind the first `*/` from `i` on.
-fn block_end(text: &[u8], i: usize) -> Option<usize>
-    requires { i ≤ length text.now }
-    ensures { MatchOption result
-        ((k : ℕ) → i ≤ k → Pair 42 47 text.now k → ⊥)
-        (λ e. (i + 2 ≤ e) × (e ≤ length text.now)
-        × ((k : ℕ) → i ≤ k → k + 2 < e → Pair 42 47 text.now k → ⊥)
-        × Pair 42 47 text.now (e - 2)) }
-{
-    for k in i..text.len() {
-        if pair_at(text, k, b'*', b'/') {
-            return Some(k + 2);
-        }
-    }
-    None
-}
-
-/// Whether a byte separates tokens by itself.
-fn is_blank(b: u8) -> bool
-    ensures { result ≡ blank b }
-{
-    b == b' ' || b == b'\t' || b == b'\r' || b == b'\n'
-}
-
-/// Where the separator at `i` ends, if one stands there.
-fn separator_end(text: &[u8], i: usize) -> Option<usize>
-    requires { i ≤ length text.now }
-    ensures { MatchOption result
-        ((k : ℕ) → Separator text.now i k → ⊥)
-        (λ k. (i < k) × (k ≤ length text.now) × Separator text.now i k) }
-{
-    if i == text.len() {
-        None
-    } else if is_blank(text[i]) {
-        Some(i + 1)
-    } else if pair_at(text, i, b'/', b'/') {
-        Some(line_end(text, i + 2))
-    } else if pair_at(text, i, b'/', b'*') {
-        block_end(text, i + 2)
-    } else {
-        None
+    match text {
+        [b' ' | b'\t' | b'\r' | b'\n', ..] => Some(1),
+        [b'/', b'/', line @ ..] => Some(2 + text::line_len(line)),
+        [b'/', b'*', rest @ ..] => Some(4 + comment_len(rest)?),
+        _ => None,
     }
 }
 
@@ -90,59 +40,30 @@ pub fn skip(text: &[u8], start: usize) -> usize
     ensures all { (k : ℕ) → Separator text.now result k → ⊥ }
 {
     let mut i = start;
-    while let Some(end) = separator_end(text, i) {
-        i = end;
+    while let Some(len) = separator_len(&text[i..]) {
+        i += len;
     }
     i
 }
 
-/// The place behind the letters and digits that stand from `i` on.
-fn word_end(text: &[u8], i: usize) -> usize
-    requires { i ≤ length text.now }
-    ensures after { i ≤ result }
+/// How many letters and digits stand in front.
+fn word_len(text: &[u8]) -> usize
     ensures within { result ≤ length text.now }
-    ensures inside { (k : ℕ) → i ≤ k → k < result → is_ascii_alphanumeric (byte text.now k) ≡ true }
+    ensures inside { (k : ℕ) → k < result → is_ascii_alphanumeric (byte text.now k) ≡ true }
     ensures ends { is_ascii_alphanumeric (byte text.now result) ≡ false }
 {
-    let mut end = i;
-    while end < text.len() && text[end].is_ascii_alphanumeric() {
-        end += 1;
-    }
-    end
-}
-
-/// The token of a reserved word.
-fn reserved<'a>(keyword: Keyword) -> Token<'a>
-    ensures { Spells (spelling keyword) result }
-{
-    match keyword {
-        Keyword::Chip => Token::Chip,
-        Keyword::In => Token::In,
-        Keyword::Out => Token::Out,
-        Keyword::Parts => Token::Parts,
-        Keyword::Builtin => Token::Builtin,
-        Keyword::Clocked => Token::Clocked,
-        Keyword::True => Token::True,
-        Keyword::False => Token::False,
-    }
+    text.iter()
+        .position(|b| !b.is_ascii_alphanumeric())
+        .unwrap_or(text.len())
 }
 
 /// The number that the bytes write, if they are digits and it is small enough.
 fn number(bytes: &[u8]) -> Option<u16>
-    requires { 0 < length bytes.now }
+    requires some { 0 < length bytes.now }
+    requires word { Word bytes.now }
     ensures { MatchOption result ((n : ℕ) → Numeral bytes.now n → ⊥) (λ n. Numeral bytes.now n) }
 {
-    let mut n: u32 = 0;
-    for b in bytes {
-        if !b.is_ascii_digit() {
-            return None;
-        }
-        n = n * 10 + (*b - b'0') as u32;
-        if n > MAX_NUMBER {
-            return None;
-        }
-    }
-    Some(n as u16)
+    std::str::from_utf8(bytes).ok()?.parse().ok()
 }
 
 /// The token that a run of letters and digits is, if it is one.
@@ -152,14 +73,11 @@ fn word(bytes: &[u8]) -> Option<Token<'_>>
     ensures { MatchOption result ((t : Token) → Spells bytes.now t → ⊥) (λ t. Spells bytes.now t) }
 {
     if let Some(keyword) = Keyword::of(bytes) {
-        Some(reserved(keyword))
+        Some(Token::from(keyword))
     } else if text::is_name(bytes) {
         Some(Token::Name(bytes))
     } else {
-        match number(bytes) {
-            Some(n) => Some(Token::Number(n)),
-            None => None,
-        }
+        Some(Token::Number(number(bytes)?))
     }
 }
 
@@ -183,25 +101,18 @@ fn mark<'a>(b: u8) -> Option<Token<'a>>
     }
 }
 
-/// The token that stands at `i`, with its end.
-pub fn token_at(text: &[u8], i: usize) -> Option<(Token<'_>, usize)>
-    requires { i < length text.now }
-    ensures { MatchOption result
-        ((j : ℕ) (t : Token) → Stands text.now i j t → ⊥)
-        (λ p. Stands text.now i p.1 p.0) }
+/// The token in front, with its length.
+pub fn token(text: &[u8]) -> Option<(Token<'_>, usize)>
+    ensures none { IfNone result ((j : ℕ) (t : Token) → Stands text.now 0 j t → ⊥) }
+    ensures some { IfSome result (λ p. Stands text.now 0 p.1 p.0) }
 {
-    if text[i].is_ascii_alphanumeric() {
-        let end = word_end(text, i);
-        match word(&text[i..end]) {
-            Some(token) => Some((token, end)),
-            None => None,
+    match text {
+        [] => None,
+        [b, ..] if b.is_ascii_alphanumeric() => {
+            let run = &text[..word_len(text)];
+            Some((word(run)?, run.len()))
         }
-    } else if pair_at(text, i, b'.', b'.') {
-        Some((Token::Dots, i + 2))
-    } else {
-        match mark(text[i]) {
-            Some(token) => Some((token, i + 1)),
-            None => None,
-        }
+        [b'.', b'.', ..] => Some((Token::Dots, 2)),
+        [b, ..] => Some((mark(*b)?, 1)),
     }
 }

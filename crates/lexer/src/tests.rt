@@ -1,33 +1,26 @@
 //! The rules of the token language, on examples.
-use crate::{Kind, Lexer, Token};
+use crate::{Kind, LexFault, Lexer, Token};
 use fault::{Cause, Fault, Place};
 use std::test::Fail;
 
 /// Whether the text is tokens of these kinds, with nothing but separators besides.
 fn reads(text: &[u8], kinds: &[Kind]) -> bool {
     let mut lexer = Lexer::new(0, text);
-    for kind in kinds {
-        let Ok(Some(token)) = lexer.next() else {
-            return false;
-        };
-        if token.kind() != *kind {
-            return false;
-        }
-    }
-    matches!(lexer.next(), Ok(None)) && lexer.place().byte == text.len()
+    kinds.iter().all(|kind| matches!(lexer.next(), Ok(Some(token)) if token.kind() == *kind))
+        && matches!(lexer.next(), Ok(None))
+        && lexer.place().byte == text.len()
+}
+
+/// Reads the text to its end.
+fn read_all(text: &[u8]) -> Result<(), LexFault> {
+    let mut lexer = Lexer::new(0, text);
+    while lexer.next()?.is_some() {}
+    Ok(())
 }
 
 /// The byte of the first fault, if there is one.
 fn fault_in(text: &[u8]) -> Option<usize> {
-    let mut lexer = Lexer::new(0, text);
-    for _ in 0..=text.len() {
-        match lexer.next() {
-            Ok(Some(_)) => {}
-            Ok(None) => return None,
-            Err(refusal) => return Some(refusal.place.byte),
-        }
-    }
-    None
+    Some(read_all(text).err()?.place.byte)
 }
 
 /// The number that the text is.
@@ -140,8 +133,7 @@ fn ruled(b: u8) -> Ruling {
 
 #[test]
 fn single_bytes(rt: HostRuntime) {
-    for n in 0..256u16 {
-        let b = n as u8;
+    for b in 0..=u8::MAX {
         let right = match ruled(b) {
             Ruling::Separator => reads(&[b], &[]),
             Ruling::Token(kind) => reads(&[b], &[kind]),

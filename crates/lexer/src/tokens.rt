@@ -1,9 +1,10 @@
 //! The tokens of the language, and their kinds.
-ghost use Rattle.std.specs.Prelude.{◌≡◌, ◌==◌, Decides};
-ghost use Rattle.lexer.specs.Kinds.{kind_of, place_of};
-ghost use Rattle.std.specs.Cmp.Rules.{comparing};
-ghost use Rattle.std.specs.Ordering.{on};
-ghost use Rattle.std.proofs.Common.{rules};
+ghost use Rattle.std.specs.Prelude.{◌≡◌, Decides};
+ghost use Rattle.text.specs.Keywords.{spelling};
+ghost use Rattle.lexer.specs.Kinds.{kind_of};
+ghost use Rattle.lexer.specs.Tokens.{Spells};
+
+use text::Keyword;
 
 /// A token. A name is its part of the text, a number its value.
 #[derive(Clone, Copy, Debug)]
@@ -32,7 +33,8 @@ pub enum Token<'a> {
 }
 
 /// What a token is, without what it holds.
-#[derive(Clone, Copy, Debug)]
+// The rules of a text compare with kinds by name, and `std::mem::discriminant` has no such names.
+#[derive(Clone, Copy, Debug, PartialEq, Eq)]
 pub enum Kind {
     Name,
     Number,
@@ -57,16 +59,30 @@ pub enum Kind {
     Equals,
 }
 
-impl PartialEq for Kind {
-    ghost eq = { on place_of ◌==◌ };
+impl From<Keyword> for Token<'_> {
+    ghost from_gives = { λ k t. Spells (spelling k) t };
 
-    ghost laws = { Prim.search (comparing, rules) };
+    /// The token of a reserved word.
+    fn from(keyword: Keyword) -> Self {
+        match keyword {
+            Keyword::Chip => Token::Chip,
+            Keyword::In => Token::In,
+            Keyword::Out => Token::Out,
+            Keyword::Parts => Token::Parts,
+            Keyword::Builtin => Token::Builtin,
+            Keyword::Clocked => Token::Clocked,
+            Keyword::True => Token::True,
+            Keyword::False => Token::False,
+        }
+    }
+}
 
-    fn eq(&self, other: &Kind) -> bool
-        ensures value { result ≡ on place_of ◌==◌ self.now other.now }
-        ensures same { Decides result (self.now ≡ other.now) }
+impl Kind {
+    /// Whether it is this kind.
+    pub fn is(self, other: Kind) -> bool
+        ensures { Decides result (self ≡ other) }
     {
-        *self as u8 == *other as u8
+        self == other
     }
 }
 
