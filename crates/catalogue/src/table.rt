@@ -15,6 +15,7 @@ pub trait Record: Copy {
 pub fn fill_blank<R: Copy>(records: &mut [R], blank: R)
     ensures { records.new ≡ replicate (length records.old) blank }
 {
+    // `fill` asks that a clone cannot fail, which `Copy` does not say.
     for record in records.iter_mut() {
         *record = blank;
     }

@@ -44,6 +44,8 @@ impl Kit for Rom<'_> {
 
     ghost sound = { λ r. rom_sound r.words.now };
 
+    // The first four hand on to the table of headers, in a line each: a trait between kits and tables,
+    // with a law that ties the model to the table, would be longer.
     fn count(&self) -> usize {
         KINDS.len()
     }

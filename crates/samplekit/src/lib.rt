@@ -82,6 +82,8 @@ impl Kit for Sample {
 
     ghost sound = { λ _. sample_sound };
 
+    // The first four hand on to the table of headers, in a line each: a trait between kits and tables,
+    // with a law that ties the model to the table, would be longer.
     fn count(&self) -> usize {
         KINDS.len()
     }
