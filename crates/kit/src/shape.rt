@@ -16,6 +16,7 @@ pub struct Pin {
     pub width: usize,
 }
 
+// Two names, as `Pin::input(0, 15)` says in fewer words what a side as a parameter would.
 impl Pin {
     /// An input pin.
     pub const fn input(first: usize, width: usize) -> Pin
