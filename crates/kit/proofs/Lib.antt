@@ -1,3 +1,3 @@
 pub mod AnyNumber
 mod Joining
-mod LowBits
+mod Widths

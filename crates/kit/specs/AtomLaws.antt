@@ -1,24 +1,15 @@
 -- The atoms are a sound kit.
-use Rattle.std.specs.Prelude.{◌≡◌, ℕ, zero, suc, ◌-◌, ◌*◌, ◌^◌, ◌<◌, ◌≤◌, Bool, true, false, cond, List, Some, None, codes, refl}
-use Rattle.std.proofs.Common.{ap₂, true≢false, arith}
-use Rattle.std.specs.Str.{bytes_eq}
+use Rattle.std.specs.Prelude.{◌≡◌, ℕ, zero, suc, ◌-◌, ◌*◌, ◌^◌, ◌<◌, ◌≤◌, refl}
+use Rattle.std.proofs.Common.{rules, ap₂, true≢false, arith}
 use Rattle.kit.specs.Bits.{bit, Agree}
 use Rattle.kit.specs.Models.{Unknown, Keeps, Sound}
-use Rattle.kit.specs.HeaderLaws.{header_placed, header_apart}
-use Rattle.kit.specs.Atoms.{nand, dff, atom_find, atom_next, atom_out, atom_waits, atoms}
-
-found : (name : List ℕ) (k : ℕ) → atom_find name ≡ Some k → k < 2
-found name k = go (bytes_eq name (codes "Nand")) (bytes_eq name (codes "DFF"))
-  where
-    go : (t u : Bool) → cond t (Some 0) (cond u (Some 1) None) ≡ Some k → k < 2
-    go true u e = let z : 0 ≡ k = cc in omega arith
-    go false true e = let z : 1 ≡ k = cc in omega arith
-    go false false e = absurd (let z : ◌≡◌ {A = ℕ} 0 1 = cc in omega arith)
+use Rattle.kit.specs.HeaderLaws.{named_below, header_placed, header_apart}
+use Rattle.kit.specs.Atoms.{nand, dff, atom_names, atom_next, atom_out, atom_waits, atoms}
 
 unknown : (k : ℕ) → 2 ≤ k → Unknown atoms k
 unknown zero h = absurd (omega arith)
 unknown (suc zero) h = absurd (omega arith)
-unknown (suc (suc k)) h = record { no_pin = λ name. refl; no_inputs = refl; no_outputs = refl; unclocked = refl; no_out = λ i s. refl; no_next = λ i s. refl; no_waits = λ b. refl }
+unknown (suc (suc k)) h = search rules
 
 past : (k b : ℕ) → atoms.outputs k ≤ b → atom_waits k b ≡ 0
 past zero zero h = absurd (omega arith)
@@ -45,8 +36,8 @@ keeps zero h = record {
   outputs_most = omega arith;
   inputs_most = omega arith;
   out_within = λ i s. omega arith;
-  placed = header_placed nand (omega arith, omega arith, (omega arith, omega arith, tt)) (omega arith, omega arith, tt);
-  apart = header_apart nand (omega arith, omega arith, (omega arith, omega arith, tt)) (omega arith, omega arith, tt);
+  placed = header_placed nand refl refl;
+  apart = header_apart nand refl refl;
   still = λ e i s. refl;
   steady = nand_steady;
 }
@@ -55,8 +46,8 @@ keeps (suc zero) h = record {
   outputs_most = omega arith;
   inputs_most = omega arith;
   out_within = λ i s. omega arith;
-  placed = header_placed dff (omega arith, omega arith, tt) (omega arith, omega arith, tt);
-  apart = header_apart dff (omega arith, omega arith, tt) (omega arith, omega arith, tt);
+  placed = header_placed dff refl refl;
+  apart = header_apart dff refl refl;
   still = λ e. absurd (true≢false e);
   steady = λ b l i j s same. refl;
 }
@@ -64,6 +55,6 @@ keeps (suc (suc k)) h = absurd (omega arith)
 
 pub atoms_sound : Sound atoms
 atoms_sound = record {
-  regular = record { few = omega arith; found = found; unknown = unknown; past = past; next_word = next_word; waits_word = waits_word };
+  regular = record { few = omega arith; found = named_below atom_names; unknown = unknown; past = past; next_word = next_word; waits_word = waits_word };
   lawful = keeps;
 }

@@ -1,6 +1,8 @@
 -- The two atoms: Nand, and DFF, which holds a bit from one cycle to the next.
-use Rattle.std.specs.Prelude.{ℕ, zero, suc, ◌-◌, ◌*◌, Bool, true, false, cond, List, [], ◌∷◌, Some, None, codes, Option}
+use Rattle.std.specs.Prelude.{ℕ, zero, suc, ◌-◌, ◌*◌, Bool, true, false, List, [], ◌∷◌, codes, Option, position}
 use Rattle.std.specs.Str.{bytes_eq}
+use Rattle.kit.specs.declared.atoms.Atom.{Atom}
+use Rattle.kit.specs.declared.atoms.Atom.TheVariants.{Nand, Dff}
 use Rattle.kit.specs.Bits.{bit}
 use Rattle.kit.specs.Models.{Model}
 use Rattle.kit.specs.Headers.{Header, bits, pin_of}
@@ -17,11 +19,20 @@ dff = record {
   outs = record { name = codes "out"; width = 1 } ∷ [];
 }
 
+-- the number of a kind
+abbrev pub number : Atom → ℕ
+number Nand = 0
+number Dff = 1
+
 abbrev pub no_header : Header
 no_header = record { ins = []; outs = [] }
 
+-- the names of the kinds, which are numbered from 0 in this order
+abbrev pub atom_names : List (List ℕ)
+atom_names = codes "Nand" ∷ codes "DFF" ∷ []
+
 abbrev pub atom_find : List ℕ → Option ℕ
-atom_find name = cond (bytes_eq name (codes "Nand")) (Some 0) (cond (bytes_eq name (codes "DFF")) (Some 1) None)
+atom_find name = position (bytes_eq name) atom_names
 
 abbrev pub atom_header : ℕ → Header
 atom_header zero = nand

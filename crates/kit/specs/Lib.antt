@@ -2,6 +2,7 @@ pub mod Bits
 pub mod Masks
 pub mod Models
 pub mod Headers
+pub mod Listings
 pub mod HeaderLaws
 pub mod Atoms
 pub mod AtomLaws

@@ -1,25 +1,22 @@
 -- Two kits as one: the kinds of the first, and then those of the second.
 use Rattle.std.specs.Prelude.{ℕ, ◌+◌, ◌-◌, min, false, cond, Some, None, Option, nat_lt}
+use Rattle.std.specs.Option.{option_or}
 use Rattle.kit.specs.declared.pair.Seat.{Seat}
-use Rattle.kit.specs.declared.pair.Seat.TheVariants.{First, Second, Neither}
+use Rattle.kit.specs.declared.pair.Seat.TheVariants.{First, Second}
 use Rattle.kit.specs.Models.{Model}
 
 -- the sum of two counts, at most 65,535
 abbrev pub both : ℕ → ℕ → ℕ
 both c d = min (c + d) 65535
 
--- which kit has the kind k, and under which number, where the kits have c and d kinds
-abbrev pub seat : ℕ → ℕ → ℕ → Seat
-seat c d k = cond (nat_lt k c) (First k) (cond (nat_lt k (both c d)) (Second (k - c)) Neither)
+-- the kit that has the kind k, if one has, and under which number, where the kits have c and d kinds
+abbrev pub seat : ℕ → ℕ → ℕ → Option Seat
+seat c d k = cond (nat_lt k c) (Some (First k)) (cond (nat_lt k (both c d)) (Some (Second (k - c))) None)
 
 -- the second kit's kind, counted on from the c kinds of the first, if it is below the count n
 abbrev pub counted_on : ℕ → ℕ → Option ℕ → Option ℕ
 counted_on c n None = None
 counted_on c n (Some k) = cond (nat_lt (c + k) n) (Some (c + k)) None
-
-abbrev pub found_in : Option ℕ → Option ℕ → Option ℕ
-found_in (Some k) o = Some k
-found_in None o = o
 
 -- the kit with no kind
 abbrev pub no_kit : Model
@@ -35,22 +32,22 @@ no_kit = record {
   waits = λ k b. 0;
 }
 
-abbrev pub kit_at : Model → Model → Seat → Model
-kit_at f s (First k) = f
-kit_at f s (Second k) = s
-kit_at f s Neither = no_kit
+abbrev pub kit_at : Model → Model → Option Seat → Model
+kit_at f s (Some (First k)) = f
+kit_at f s (Some (Second k)) = s
+kit_at f s None = no_kit
 
-abbrev pub kind_at : Seat → ℕ
-kind_at (First k) = k
-kind_at (Second k) = k
-kind_at Neither = 0
+abbrev pub kind_at : Option Seat → ℕ
+kind_at (Some (First k)) = k
+kind_at (Some (Second k)) = k
+kind_at None = 0
 
 abbrev pub pair : Model → Model → Model
 pair f s =
-    let at : ℕ → Seat = seat f.count s.count in
+    let at : ℕ → Option Seat = seat f.count s.count in
     record {
       count = both f.count s.count;
-      find = λ name. found_in (f.find name) (counted_on f.count (both f.count s.count) (s.find name));
+      find = λ name. option_or (f.find name) (counted_on f.count (both f.count s.count) (s.find name));
       pin = λ k. (kit_at f s (at k)).pin (kind_at (at k));
       inputs = λ k. (kit_at f s (at k)).inputs (kind_at (at k));
       outputs = λ k. (kit_at f s (at k)).outputs (kind_at (at k));

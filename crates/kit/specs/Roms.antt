@@ -1,12 +1,15 @@
 -- A kit over words: one kind, ROM, which answers the word at an address.
-use Rattle.std.specs.Prelude.{ℕ, zero, suc, ◌%◌, ◌^◌, false, cond, List, [], ◌∷◌, Some, None, codes, Option, nat_lt, slice_index}
+use Rattle.std.specs.Prelude.{ℕ, zero, suc, ◌%◌, ◌^◌, false, cond, List, [], ◌∷◌, codes, Option, nat_lt, position, slice_index}
 use Rattle.std.specs.Str.{bytes_eq}
 use Rattle.kit.specs.Models.{Model}
 use Rattle.kit.specs.Headers.{Header, bits, pin_of}
 use Rattle.kit.specs.Atoms.{no_header}
 
+abbrev pub rom_names : List (List ℕ)
+rom_names = codes "ROM" ∷ []
+
 abbrev pub rom_find : List ℕ → Option ℕ
-rom_find name = cond (bytes_eq name (codes "ROM")) (Some 0) None
+rom_find name = position (bytes_eq name) rom_names
 
 abbrev pub rom_header : ℕ → Header
 rom_header zero = record {

@@ -1,16 +1,35 @@
 //! The atoms: Nand and DFF.
-ghost use Rattle.std.specs.Prelude.{◌≡◌};
-ghost use Rattle.kit.specs.Headers.{pin_of};
-ghost use Rattle.kit.specs.Atoms.{nand, dff, atoms};
+ghost use Rattle.std.specs.Prelude.{◌≡◌, ◌≤◌, MatchOption};
+ghost use Rattle.kit.specs.Atoms.{number, atoms};
 ghost use Rattle.kit.specs.AtomLaws.{atoms_sound};
 
+use crate::header::{Header, Listed};
 use crate::kits::Kit;
-use crate::names;
 use crate::shape::{Pin, Size};
 
-const NAND: usize = 0;
+/// The kinds, in the order of their numbers.
+#[derive(Clone, Copy)]
+enum Atom {
+    Nand,
+    Dff,
+}
 
-const DFF: usize = 1;
+const NAND: Header = Header {
+    name: b"Nand",
+    ins: &[Listed(b"a", 1), Listed(b"b", 1)],
+    outs: &[Listed(b"out", 1)],
+    clocked: false,
+};
+
+const DFF: Header = Header {
+    name: b"DFF",
+    ins: &[Listed(b"in", 1)],
+    outs: &[Listed(b"out", 1)],
+    clocked: true,
+};
+
+/// The headers of the kinds, each at its kind's number.
+const KINDS: [Header; 2] = [NAND, DFF];
 
 /// A kit of two kinds.
 ///
@@ -20,31 +39,16 @@ const DFF: usize = 1;
 #[derive(Clone, Copy)]
 pub struct Atoms;
 
-/// The pin of Nand for a name.
-fn nand_pin(name: &[u8]) -> Option<Pin>
-    ensures { result ≡ pin_of nand name.now }
-{
-    if names::is(name, b"a") {
-        Some(Pin::input(0, 1))
-    } else if names::is(name, b"b") {
-        Some(Pin::input(1, 1))
-    } else if names::is(name, b"out") {
-        Some(Pin::output(0, 1))
-    } else {
-        None
-    }
-}
-
-/// The pin of DFF for a name.
-fn dff_pin(name: &[u8]) -> Option<Pin>
-    ensures { result ≡ pin_of dff name.now }
-{
-    if names::is(name, b"in") {
-        Some(Pin::input(0, 1))
-    } else if names::is(name, b"out") {
-        Some(Pin::output(0, 1))
-    } else {
-        None
+impl Atom {
+    /// The kind of a number, or none.
+    fn of(kind: usize) -> Option<Atom>
+        ensures { MatchOption result (2 ≤ kind) (λ atom. kind ≡ number atom) }
+    {
+        match kind {
+            0 => Some(Atom::Nand),
+            1 => Some(Atom::Dff),
+            _ => None,
+        }
     }
 }
 
@@ -54,62 +58,40 @@ impl Kit for Atoms {
     ghost sound = { λ _. atoms_sound };
 
     fn count(&self) -> usize {
-        2
+        KINDS.len()
     }
 
     fn find(&self, name: &[u8]) -> Option<usize> {
-        if names::is(name, b"Nand") {
-            Some(NAND)
-        } else if names::is(name, b"DFF") {
-            Some(DFF)
-        } else {
-            None
-        }
+        Header::find(&KINDS, name)
     }
 
     fn pin(&self, kind: usize, name: &[u8]) -> Option<Pin> {
-        match kind {
-            NAND => nand_pin(name),
-            DFF => dff_pin(name),
-            _ => None,
-        }
+        KINDS.get(kind)?.pin(name)
     }
 
     fn size(&self, kind: usize) -> Size {
-        match kind {
-            NAND => Size {
-                inputs: 2,
-                outputs: 1,
-                clocked: false,
-            },
-            DFF => Size {
-                inputs: 1,
-                outputs: 1,
-                clocked: true,
-            },
-            _ => Size::NONE,
-        }
+        KINDS.get(kind).map_or(Size::NONE, Header::size)
     }
 
     fn out(&self, kind: usize, input: u64, state: u64) -> u64 {
-        match kind {
-            NAND => 1 - (input & 1) * ((input >> 1) & 1),
-            DFF => state & 1,
-            _ => 0,
+        match Atom::of(kind) {
+            Some(Atom::Nand) => 1 - (input & 1) * ((input >> 1) & 1),
+            Some(Atom::Dff) => state & 1,
+            None => 0,
         }
     }
 
     fn next(&self, kind: usize, input: u64, _state: u64) -> u64 {
-        match kind {
-            DFF => input & 1,
-            _ => 0,
+        match Atom::of(kind) {
+            Some(Atom::Nand) | None => 0,
+            Some(Atom::Dff) => input & 1,
         }
     }
 
     fn waits(&self, kind: usize, output: usize) -> u64 {
-        match (kind, output) {
-            (NAND, 0) => 0b11,
-            _ => 0,
+        match Atom::of(kind) {
+            Some(Atom::Nand) if output == 0 => 0b11,
+            Some(Atom::Nand | Atom::Dff) | None => 0,
         }
     }
 }

@@ -15,6 +15,7 @@ pub fn laws_are_met()
 
 /// A pair answers of its kinds as the kit does that has them, and finds a name in the first kit
 /// or else in the second.
+#[tactic(auto, using(crate::proofs::Joining::pair_joins))]
 pub fn pairs_join()
     ensures { (f s : Model) → Joins f s (pair f s) }
 {}

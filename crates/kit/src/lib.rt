@@ -2,14 +2,15 @@
 #![tactic(auto)]
 
 mod atoms;
+mod header;
 mod kits;
 mod laws;
-mod names;
 mod pair;
 mod rom;
 mod shape;
 
 pub use atoms::Atoms;
+pub use header::{Header, Listed};
 pub use kits::{Kit, MAX_KINDS};
 pub use laws::{laws_are_met, pairs_join};
 pub use pair::Pair;

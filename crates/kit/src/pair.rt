@@ -17,12 +17,11 @@ pub struct Pair<F, S> {
     second: S,
 }
 
-/// Which kit of a pair has a kind, and under which number.
+/// The kit of a pair that has a kind, and under which number.
 #[derive(Clone, Copy)]
 enum Seat {
     First(usize),
     Second(usize),
-    Neither,
 }
 
 impl<F, S> Pair<F, S> {
@@ -36,21 +35,23 @@ impl<F, S> Pair<F, S> {
 }
 
 impl<F: Kit, S: Kit> Pair<F, S> {
-    /// Which kit has a kind, and under which number.
-    fn seat(&self, kind: usize) -> Seat
+    /// The kit that has a kind, and under which number, or none.
+    fn seat(&self, kind: usize) -> Option<Seat>
         ensures { result ≡ seat (F.Kit.model self.now.first).count (S.Kit.model self.now.second).count kind }
     {
         let count = self.first.count();
         if kind < count {
-            Seat::First(kind)
-        } else if kind < (count + self.second.count()).min(MAX_KINDS) {
-            Seat::Second(kind - count)
+            Some(Seat::First(kind))
+        } else if kind < self.count() {
+            Some(Seat::Second(kind - count))
         } else {
-            Seat::Neither
+            None
         }
     }
 }
 
+// Each question is asked in both arms of its own match: F and S are two types, so that what the arms
+// share has no type without a boxed kit, and a closure for each arm would be longer than the arm.
 impl<F: Kit, S: Kit> Kit for Pair<F, S> {
     ghost model = { λ p. pair (F.Kit.model p.first) (S.Kit.model p.second) };
 
@@ -65,50 +66,45 @@ impl<F: Kit, S: Kit> Kit for Pair<F, S> {
             return Some(kind);
         }
         let kind = self.first.count() + self.second.find(name)?;
-        if kind < self.count() {
-            Some(kind)
-        } else {
-            None
-        }
+        (kind < self.count()).then_some(kind)
     }
 
     fn pin(&self, kind: usize, name: &[u8]) -> Option<Pin> {
-        match self.seat(kind) {
+        match self.seat(kind)? {
             Seat::First(kind) => self.first.pin(kind, name),
             Seat::Second(kind) => self.second.pin(kind, name),
-            Seat::Neither => None,
         }
     }
 
     fn size(&self, kind: usize) -> Size {
         match self.seat(kind) {
-            Seat::First(kind) => self.first.size(kind),
-            Seat::Second(kind) => self.second.size(kind),
-            Seat::Neither => Size::NONE,
+            Some(Seat::First(kind)) => self.first.size(kind),
+            Some(Seat::Second(kind)) => self.second.size(kind),
+            None => Size::NONE,
         }
     }
 
     fn out(&self, kind: usize, input: u64, state: u64) -> u64 {
         match self.seat(kind) {
-            Seat::First(kind) => self.first.out(kind, input, state),
-            Seat::Second(kind) => self.second.out(kind, input, state),
-            Seat::Neither => 0,
+            Some(Seat::First(kind)) => self.first.out(kind, input, state),
+            Some(Seat::Second(kind)) => self.second.out(kind, input, state),
+            None => 0,
         }
     }
 
     fn next(&self, kind: usize, input: u64, state: u64) -> u64 {
         match self.seat(kind) {
-            Seat::First(kind) => self.first.next(kind, input, state),
-            Seat::Second(kind) => self.second.next(kind, input, state),
-            Seat::Neither => 0,
+            Some(Seat::First(kind)) => self.first.next(kind, input, state),
+            Some(Seat::Second(kind)) => self.second.next(kind, input, state),
+            None => 0,
         }
     }
 
     fn waits(&self, kind: usize, output: usize) -> u64 {
         match self.seat(kind) {
-            Seat::First(kind) => self.first.waits(kind, output),
-            Seat::Second(kind) => self.second.waits(kind, output),
-            Seat::Neither => 0,
+            Some(Seat::First(kind)) => self.first.waits(kind, output),
+            Some(Seat::Second(kind)) => self.second.waits(kind, output),
+            None => 0,
         }
     }
 }

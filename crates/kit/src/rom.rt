@@ -1,14 +1,22 @@
 //! A ROM over lent words.
 ghost use Rattle.std.specs.Prelude.{◌≡◌};
-ghost use Rattle.kit.specs.Headers.{pin_of};
-ghost use Rattle.kit.specs.Roms.{rom, rom_header};
+ghost use Rattle.kit.specs.Roms.{rom};
 ghost use Rattle.kit.specs.RomLaws.{rom_sound};
 
+use crate::header::{Header, Listed};
 use crate::kits::Kit;
-use crate::names;
 use crate::shape::{Pin, Size};
 
+/// The number of the one kind: an enum of one variant would say no more.
 const ROM: usize = 0;
+
+/// The headers of the kinds, each at its kind's number.
+const KINDS: [Header; 1] = [Header {
+    name: b"ROM",
+    ins: &[Listed(b"address", 15)],
+    outs: &[Listed(b"out", 16)],
+    clocked: false,
+}];
 
 /// The number of addresses, of 15 bits.
 const ADDRESSES: u64 = 0x8000;
@@ -31,52 +39,25 @@ impl<'w> Rom<'w> {
     }
 }
 
-/// The pin of ROM for a name.
-fn rom_pin(name: &[u8]) -> Option<Pin>
-    ensures { result ≡ pin_of (rom_header 0) name.now }
-{
-    if names::is(name, b"address") {
-        Some(Pin::input(0, 15))
-    } else if names::is(name, b"out") {
-        Some(Pin::output(0, 16))
-    } else {
-        None
-    }
-}
-
 impl Kit for Rom<'_> {
     ghost model = { λ r. rom r.words.now };
 
     ghost sound = { λ r. rom_sound r.words.now };
 
     fn count(&self) -> usize {
-        1
+        KINDS.len()
     }
 
     fn find(&self, name: &[u8]) -> Option<usize> {
-        if names::is(name, b"ROM") {
-            Some(ROM)
-        } else {
-            None
-        }
+        Header::find(&KINDS, name)
     }
 
     fn pin(&self, kind: usize, name: &[u8]) -> Option<Pin> {
-        match kind {
-            ROM => rom_pin(name),
-            _ => None,
-        }
+        KINDS.get(kind)?.pin(name)
     }
 
     fn size(&self, kind: usize) -> Size {
-        match kind {
-            ROM => Size {
-                inputs: 15,
-                outputs: 16,
-                clocked: false,
-            },
-            _ => Size::NONE,
-        }
+        KINDS.get(kind).map_or(Size::NONE, Header::size)
     }
 
     fn out(&self, kind: usize, input: u64, _state: u64) -> u64 {
@@ -84,11 +65,7 @@ impl Kit for Rom<'_> {
             return 0;
         }
         let address = (input % ADDRESSES) as usize;
-        if address < self.words.len() {
-            self.words[address] as u64
-        } else {
-            0
-        }
+        self.words.get(address).copied().map_or(0, u64::from)
     }
 
     fn next(&self, _kind: usize, _input: u64, _state: u64) -> u64 {

@@ -1,6 +1,8 @@
 -- Kinds with wide pins: two that compute at once, Add4 and Split, and two that hold a number, Reg8 and Count4.
-use Rattle.std.specs.Prelude.{ℕ, zero, suc, ◌+◌, ◌/◌, ◌%◌, ◌^◌, Bool, true, false, cond, List, [], ◌∷◌, Some, None, codes, Option, ◌==◌, nat_lt}
+use Rattle.std.specs.Prelude.{ℕ, zero, suc, ◌+◌, ◌/◌, ◌%◌, ◌^◌, Bool, true, false, cond, List, [], ◌∷◌, codes, Option, ◌==◌, nat_lt, position}
 use Rattle.std.specs.Str.{bytes_eq}
+use Rattle.samplekit.specs.declared.Kind.{Kind}
+use Rattle.samplekit.specs.declared.Kind.TheVariants.{Add4, Split, Reg8, Count4}
 use Rattle.kit.specs.Bits.{bit}
 use Rattle.kit.specs.Models.{Model}
 use Rattle.kit.specs.Headers.{Header, bits, pin_of}
@@ -30,12 +32,19 @@ count4 = record {
   outs = record { name = codes "out"; width = 4 } ∷ [];
 }
 
+-- the number of a kind
+abbrev pub number : Kind → ℕ
+number Add4 = 0
+number Split = 1
+number Reg8 = 2
+number Count4 = 3
+
+-- the names of the kinds, which are numbered from 0 in this order
+abbrev pub sample_names : List (List ℕ)
+sample_names = codes "Add4" ∷ codes "Split" ∷ codes "Reg8" ∷ codes "Count4" ∷ []
+
 abbrev pub sample_find : List ℕ → Option ℕ
-sample_find name =
-    cond (bytes_eq name (codes "Add4")) (Some 0)
-    (cond (bytes_eq name (codes "Split")) (Some 1)
-    (cond (bytes_eq name (codes "Reg8")) (Some 2)
-    (cond (bytes_eq name (codes "Count4")) (Some 3) None)))
+sample_find name = position (bytes_eq name) sample_names
 
 abbrev pub sample_header : ℕ → Header
 sample_header zero = add4

@@ -1,21 +1,51 @@
 //! A kit for tests, and an example of how a kit is added: wide kinds, clocked and unclocked.
 #![tactic(auto)]
 
-ghost use Rattle.std.specs.Prelude.{◌≡◌};
-ghost use Rattle.std.specs.Str.{bytes_eq};
-ghost use Rattle.kit.specs.Headers.{pin_of};
-ghost use Rattle.samplekit.specs.Samples.{add4, split, reg8, count4, sample};
+ghost use Rattle.std.specs.Prelude.{◌≡◌, ◌≤◌, MatchOption};
+ghost use Rattle.samplekit.specs.Samples.{number, sample};
 ghost use Rattle.samplekit.specs.SampleLaws.{sample_sound};
 
-use kit::{Kit, Pin, Size};
+use kit::{Header, Kit, Listed, Pin, Size};
 
-const ADD4: usize = 0;
+/// The kinds, in the order of their numbers.
+#[derive(Clone, Copy)]
+enum Kind {
+    Add4,
+    Split,
+    Reg8,
+    Count4,
+}
 
-const SPLIT: usize = 1;
+const ADD4: Header = Header {
+    name: b"Add4",
+    ins: &[Listed(b"a", 4), Listed(b"b", 4)],
+    outs: &[Listed(b"sum", 4), Listed(b"carry", 1)],
+    clocked: false,
+};
 
-const REG8: usize = 2;
+const SPLIT: Header = Header {
+    name: b"Split",
+    ins: &[Listed(b"in", 16)],
+    outs: &[Listed(b"low", 8), Listed(b"high", 8)],
+    clocked: false,
+};
 
-const COUNT4: usize = 3;
+const REG8: Header = Header {
+    name: b"Reg8",
+    ins: &[Listed(b"in", 8), Listed(b"load", 1)],
+    outs: &[Listed(b"out", 8)],
+    clocked: true,
+};
+
+const COUNT4: Header = Header {
+    name: b"Count4",
+    ins: &[Listed(b"reset", 1)],
+    outs: &[Listed(b"out", 4)],
+    clocked: true,
+};
+
+/// The headers of the kinds, each at its kind's number.
+const KINDS: [Header; 4] = [ADD4, SPLIT, REG8, COUNT4];
 
 /// A kit of four kinds.
 ///
@@ -32,70 +62,18 @@ const COUNT4: usize = 3;
 #[derive(Clone, Copy)]
 pub struct Sample;
 
-/// Whether a name is the known one.
-fn is(name: &[u8], known: &[u8]) -> bool
-    ensures { result ≡ bytes_eq name.now known.now }
-{
-    text::same(name, known)
-}
-
-/// The pin of Add4 for a name.
-fn add4_pin(name: &[u8]) -> Option<Pin>
-    ensures { result ≡ pin_of add4 name.now }
-{
-    if is(name, b"a") {
-        Some(Pin::input(0, 4))
-    } else if is(name, b"b") {
-        Some(Pin::input(4, 4))
-    } else if is(name, b"sum") {
-        Some(Pin::output(0, 4))
-    } else if is(name, b"carry") {
-        Some(Pin::output(4, 1))
-    } else {
-        None
-    }
-}
-
-/// The pin of Split for a name.
-fn split_pin(name: &[u8]) -> Option<Pin>
-    ensures { result ≡ pin_of split name.now }
-{
-    if is(name, b"in") {
-        Some(Pin::input(0, 16))
-    } else if is(name, b"low") {
-        Some(Pin::output(0, 8))
-    } else if is(name, b"high") {
-        Some(Pin::output(8, 8))
-    } else {
-        None
-    }
-}
-
-/// The pin of Reg8 for a name.
-fn reg8_pin(name: &[u8]) -> Option<Pin>
-    ensures { result ≡ pin_of reg8 name.now }
-{
-    if is(name, b"in") {
-        Some(Pin::input(0, 8))
-    } else if is(name, b"load") {
-        Some(Pin::input(8, 1))
-    } else if is(name, b"out") {
-        Some(Pin::output(0, 8))
-    } else {
-        None
-    }
-}
-
-/// The pin of Count4 for a name.
-fn count4_pin(name: &[u8]) -> Option<Pin>
-    ensures { result ≡ pin_of count4 name.now }
-{
-    if is(name, b"reset") {
-        Some(Pin::input(0, 1))
-    } else if is(name, b"out") {
-        Some(Pin::output(0, 4))
-    } else {
-        None
+impl Kind {
+    /// The kind of a number, or none.
+    fn of(kind: usize) -> Option<Kind>
+        ensures { MatchOption result (4 ≤ kind) (λ k. kind ≡ number k) }
+    {
+        match kind {
+            0 => Some(Kind::Add4),
+            1 => Some(Kind::Split),
+            2 => Some(Kind::Reg8),
+            3 => Some(Kind::Count4),
+            _ => None,
+        }
     }
 }
 
@@ -105,84 +83,46 @@ impl Kit for Sample {
     ghost sound = { λ _. sample_sound };
 
     fn count(&self) -> usize {
-        4
+        KINDS.len()
     }
 
     fn find(&self, name: &[u8]) -> Option<usize> {
-        if is(name, b"Add4") {
-            Some(ADD4)
-        } else if is(name, b"Split") {
-            Some(SPLIT)
-        } else if is(name, b"Reg8") {
-            Some(REG8)
-        } else if is(name, b"Count4") {
-            Some(COUNT4)
-        } else {
-            None
-        }
+        Header::find(&KINDS, name)
     }
 
     fn pin(&self, kind: usize, name: &[u8]) -> Option<Pin> {
-        match kind {
-            ADD4 => add4_pin(name),
-            SPLIT => split_pin(name),
-            REG8 => reg8_pin(name),
-            COUNT4 => count4_pin(name),
-            _ => None,
-        }
+        KINDS.get(kind)?.pin(name)
     }
 
     fn size(&self, kind: usize) -> Size {
-        match kind {
-            ADD4 => Size {
-                inputs: 8,
-                outputs: 5,
-                clocked: false,
-            },
-            SPLIT => Size {
-                inputs: 16,
-                outputs: 16,
-                clocked: false,
-            },
-            REG8 => Size {
-                inputs: 9,
-                outputs: 8,
-                clocked: true,
-            },
-            COUNT4 => Size {
-                inputs: 1,
-                outputs: 4,
-                clocked: true,
-            },
-            _ => Size::NONE,
-        }
+        KINDS.get(kind).map_or(Size::NONE, Header::size)
     }
 
     fn out(&self, kind: usize, input: u64, state: u64) -> u64 {
-        match kind {
-            ADD4 => input % 16 + input / 16 % 16,
-            SPLIT => input % 0x10000,
-            REG8 => state % 256,
-            COUNT4 => state % 16,
-            _ => 0,
+        match Kind::of(kind) {
+            Some(Kind::Add4) => input % 16 + input / 16 % 16,
+            Some(Kind::Split) => input % 0x10000,
+            Some(Kind::Reg8) => state % 256,
+            Some(Kind::Count4) => state % 16,
+            None => 0,
         }
     }
 
     fn next(&self, kind: usize, input: u64, state: u64) -> u64 {
-        match kind {
-            REG8 if input / 256 % 2 == 1 => input % 256,
-            REG8 => state % 256,
-            COUNT4 if input % 2 == 1 => 0,
-            COUNT4 => (state % 16 + 1) % 16,
-            _ => 0,
+        match Kind::of(kind) {
+            Some(Kind::Reg8) if input / 256 % 2 == 1 => input % 256,
+            Some(Kind::Reg8) => state % 256,
+            Some(Kind::Count4) if input % 2 == 1 => 0,
+            Some(Kind::Count4) => (state % 16 + 1) % 16,
+            Some(Kind::Add4 | Kind::Split) | None => 0,
         }
     }
 
     fn waits(&self, kind: usize, output: usize) -> u64 {
-        match kind {
-            ADD4 if output < 5 => 0xff,
-            SPLIT if output < 16 => 1 << output,
-            _ => 0,
+        match Kind::of(kind) {
+            Some(Kind::Add4) if output < 5 => 0xff,
+            Some(Kind::Split) if output < 16 => 1 << output,
+            Some(Kind::Add4 | Kind::Split | Kind::Reg8 | Kind::Count4) | None => 0,
         }
     }
 }
