@@ -1,4 +1,4 @@
-//! The pins of a kind, as its header lists them.
+//! The header of a kind, and what it means.
 ghost use Rattle.std.specs.Prelude.{◌≡◌, ◌≤◌, position};
 ghost use Rattle.std.specs.Str.{bytes_eq};
 ghost use Rattle.kit.specs.Headers.{bits, sought, pin_of};
@@ -10,8 +10,8 @@ use crate::shape::{Pin, Side, Size};
 #[derive(Clone, Copy)]
 pub struct Listed(pub &'static [u8], pub usize);
 
-/// The pins of a kind: on each side they stand from bit 0 up, in the order given, in at most 64
-/// bits.
+/// A kind as it is listed: its name, its pins, and whether it is clocked. On each side the pins
+/// stand from bit 0 up, in the order given, in at most 64 bits.
 #[derive(Clone, Copy)]
 pub struct Header {
     pub name: &'static [u8],
