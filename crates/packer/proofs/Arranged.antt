@@ -1,13 +1,15 @@
 -- Sources that keep the rules, put in the order of their names.
-use Rattle.std.proofs.Common.{◌≡◌, ℕ, zero, suc, ◌+◌, ◌*◌, ◌<◌, ◌≤◌, false, ◌⊎◌, List, [], ◌∷◌, length, get_or, Ordering, Less, Equal, Greater, sym, refl, ap, ◌∙◌, subst, inl, inr, ⊎_elim, arith}
+use Rattle.std.proofs.Common.{◌≡◌, ℕ, ◌+◌, ◌*◌, ◌<◌, ◌≤◌, false, List, [], ◌∷◌, map, length, get_or, Ordering, Less, Equal, Greater, sym, refl, ap, ◌∙◌, subst, arith}
 use Rattle.std.specs.Ordering.{is_lt}
+use Rattle.std.specs.Str.{bytes_eq}
+use Rattle.std.specs.List.{IsDistinct}
 use Rattle.std.specs.List.Sorted.{IsPermutation, IsSortedWithin}
-use Rattle.std.specs.List.{swap, AllByRecursion as All}
-use Rattle.std.proofs.lemmas.List.Edits.{swapped_from_swap, length-swap}
-use Rattle.std.proofs.ByRecursion.{has_get_or, all_shuffled, has_shuffled}
-use Rattle.std.proofs.lemmas.List.{take_all}
-use Rattle.std.proofs.lemmas.List.Sorted.{length_permutation, IsPermutation-keeps, sum_by-IsPermutation}
-use Rattle.std.proofs.lemmas.Bool.{cases_eq, cases_order, true≢false}
+use Rattle.std.proofs.lemmas.Cmp.{nat_list_eq_equiv}
+use Rattle.std.proofs.lemmas.List.{take_all, length-map, get_or-map, get_or_default}
+use Rattle.std.proofs.lemmas.List.Sorted.{length_permutation, IsPermutation-map, All-permutation, Contains-permutation, sum_by-IsPermutation}
+use Rattle.std.proofs.lemmas.Map.Keys.{IsDistinct-from_apart, IsDistinct-IsPermutation, apart_from_distinct}
+use Rattle.std.proofs.lemmas.Slice.Eq.{bytes_eq-Decides}
+use Rattle.std.proofs.lemmas.Bool.{false_from_ne_true, true≢false}
 use Rattle.text.specs.Names.{Named}
 use Rattle.text.specs.Orders.{order, Before}
 use Rattle.text.proofs.Comparing.{same_order, order_flip}
@@ -16,60 +18,17 @@ use Rattle.packer.specs.Rules.{name_of, text_of, bytes, Sound}
 use Rattle.packer.specs.Written.{Writable}
 use Rattle.packer.proofs.Places.{blank, name_read, text_read}
 
--- ---- no two sources have one name, however they are ordered
+abbrev names : List Source → List (List ℕ)
+names ss = map (λ s. s.name.now) ss
 
-abbrev Apart : List Source → Type 0
-Apart ss = (i j : ℕ) → i < length ss → j < length ss → name_of ss i ≡ name_of ss j → i ≡ j
-
-apart_from_sound : (ss : List Source) → Sound ss → Apart ss
-apart_from_sound ss h i j a b e =
-    ⊎_elim (λ same. same)
-    (⊎_elim
-    (λ l. absurd ((h.keeps j b).new i l e))
-    (λ l. absurd ((h.keeps i a).new j l (sym e))))
-    (cases_order i j)
-
--- the i-th stood at the place p, before a and b changed places
-abbrev From : ℕ → ℕ → ℕ → ℕ → Type 0
-From a b i p = ((i ≡ a) × (p ≡ b)) ⊎ (((i ≡ b) × (p ≡ a)) ⊎ ((i ≡ a → ⊥) × (i ≡ b → ⊥) × (p ≡ i)))
-
-one_place : (a b i p j : ℕ) → From a b i p → From a b j p → i ≡ j
-one_place a b i p j f g = grind arith
-
-from_place : (ss : List Source) (a b : ℕ) → a < length ss → b < length ss → (i : ℕ) → i < length (swap ss a b) → (p : ℕ) × (p < length ss) × (name_of (swap ss a b) i ≡ name_of ss p) × From a b i p
-from_place [] a b la lb i l = absurd (omega arith)
-from_place (d ∷ rest) a b la lb i l =
-    let ss = d ∷ rest in
-    let ts = swap ss a b in
-    let swapped = swapped_from_swap ss ts a b blank la lb refl in
-    let in_ss : i < length ss = omega (arith, length-swap ss a b) in
-    let at : (p : ℕ) → p < length ss → get_or ts i blank ≡ get_or ss p blank → name_of ts i ≡ name_of ss p =
-    λ p m e. sym (name_read ts i l) ∙ ap (λ s. s.name.now) e ∙ name_read ss p m in
-    ⊎_elim
-    (λ e. (b, lb, at b lb (ap (λ k. get_or ts k blank) e ∙ swapped.0), inl (e, refl)))
-    (λ no. ⊎_elim
-    (λ e. (a, la, at a la (ap (λ k. get_or ts k blank) e ∙ swapped.1), inr (inl (e, refl))))
-    (λ nor. (i, in_ss, at i in_ss (swapped.2 i no nor), inr (inr (no, nor, refl))))
-    (cases_eq i b))
-    (cases_eq i a)
-
-apart_exchanged : (ss : List Source) (a b : ℕ) → a < length ss → b < length ss → Apart ss → Apart (swap ss a b)
-apart_exchanged ss a b la lb h i j li lj e =
-    let p = from_place ss a b la lb i li in
-    let q = from_place ss a b la lb j lj in
-    let same = h p.0 q.0 p.1 q.1 (sym p.2 ∙ e ∙ q.2) in
-    one_place a b i p.0 j p.3 (subst (From a b j) (sym same) q.3)
-
--- ---- what ordered sources are
-
-named_all : (ss : List Source) → ((k : ℕ) → k < length ss → Named (name_of ss k)) → All (λ s. Named s.name.now) ss
-named_all [] h = tt
-named_all (s ∷ ss) h = (h 0 (omega arith), named_all ss (λ k l. h (suc k) (omega arith)))
-
-named_at : (ss : List Source) → All (λ s. Named s.name.now) ss → (k : ℕ) → k < length ss → Named (name_of ss k)
-named_at [] h k l = absurd (omega arith)
-named_at (s ∷ ss) h zero l = h.0
-named_at (s ∷ ss) h (suc k) l = named_at ss h.1 k (omega arith)
+-- no two sources have one name, however they are ordered
+distinct : (ss ts : List Source) → Sound ss → IsPermutation ss ts → IsDistinct bytes_eq (names ts)
+distinct ss ts h sh =
+    IsDistinct-IsPermutation bytes_eq nat_list_eq_equiv.symm (names ss) (names ts) (IsPermutation-map (λ s. s.name.now) ss ts sh)
+    (IsDistinct-from_apart bytes_eq (names ss) (λ i j d l m.
+    let in_ss : j < length ss = omega (arith, length-map ss (λ s. s.name.now)) in
+    false_from_ne_true _ (λ t. (h.keeps j in_ss).new i l
+    (get_or_default (names ss) i [] d (omega arith) ∙ (bytes_eq-Decides _ _).0 t ∙ get_or_default (names ss) j d [] m))))
 
 small_from_sound : (ss : List Source) → Sound ss → 2 + 36 * length ss + bytes ss ≤ 65535
 small_from_sound [] h = omega arith
@@ -89,24 +48,27 @@ arranged ss ts n h sh long up =
     let same = length_permutation ss ts sh in
     let sum = sum_by-IsPermutation (λ s. length s.text.now) ss ts sh in
     let small = small_from_sound ss h in
-    let apart = IsPermutation-keeps ss Apart (apart_from_sound ss h) apart_exchanged ts sh in
+    let named = All-permutation (λ s. Named s.name.now) ss ts sh (λ k d l. subst Named (get_or-map (λ s. s.name.now) ss k d [] l) (h.keeps k l).named) in
+    let wide = length-map ts (λ s. s.name.now) in
     record {
       few = omega (arith, h.few);
-      named = named_at ts (all_shuffled (λ s. Named s.name.now) ss ts sh (named_all ss (λ k l. (h.keeps k l).named)));
+      named = λ k l. subst Named (name_read ts k l) (named k blank l);
       rises = λ k l.
           let here : k < length ts = omega arith in
           let told = up k blank (omega arith) (omega arith) in
           let at = ap (λ m. is_lt (order m (get_or ts k blank).name.now)) (name_read ts (k + 1) l) ∙ ap (λ m. is_lt (order (name_of ts (k + 1)) m)) (name_read ts k here) in
+          let apart = apart_from_distinct bytes_eq (names ts) k (k + 1) [] (distinct ss ts h sh) (omega arith) (omega (arith, wide)) in
           before_from (name_of ts k) (name_of ts (k + 1)) _ refl (sym at ∙ told)
-          (λ e. let z = apart k (k + 1) here l e in omega arith);
+          (λ e. true≢false (sym ((bytes_eq-Decides _ _).1 e) ∙ apart));
       small = omega arith;
     }
 
 -- each source stands somewhere in the other order
 pub moved : (ss ts : List Source) → IsPermutation ss ts → (i : ℕ) → i < length ss → (k : ℕ) × (k < length ts) × (name_of ts k ≡ name_of ss i) × (text_of ts k ≡ text_of ss i)
 moved ss ts sh i l =
-    let h = has_shuffled ss ts (get_or ss i blank) sh (has_get_or ss i blank l) in
-    let e = h.2 blank in (
+    let x = get_or ss i blank in
+    let h = Contains-permutation ss ts x sh (i, l, get_or_default ss i x blank l) in
+    let e : get_or ts h.0 blank ≡ x = get_or_default ts h.0 blank x h.1 ∙ h.2 in (
       h.0,
       h.1,
       sym (name_read ts h.0 h.1) ∙ ap (λ s. s.name.now) e ∙ name_read ss i l,

@@ -1,12 +1,12 @@
 -- What the bytes that are written for sources say at each place.
-use Rattle.std.proofs.Common.{◌≡◌, ℕ, zero, suc, ◌+◌, ◌-◌, ◌*◌, ◌/◌, ◌%◌, ◌<◌, ◌≤◌, List, [], ◌∷◌, ◌++◌, length, get_or, take, drop, replicate, sym, refl, ap, ◌∙◌, add-zero, arith}
+use Rattle.std.proofs.Common.{◌≡◌, ℕ, zero, suc, ◌+◌, ◌-◌, ◌*◌, ◌<◌, ◌≤◌, List, [], ◌∷◌, ◌++◌, length, take, drop, replicate, sym, refl, ap, ◌∙◌, add-zero, arith}
 use Rattle.std.specs.List.{AllByRecursion as All}
-use Rattle.std.proofs.lemmas.List.{append_assoc, append-nil, length-append, length-replicate, get_or-drop, drop-drop, drop_at, at_drop_more, at_drop_all, take-replicate, drop-replicate}
+use Rattle.std.proofs.lemmas.List.{append_assoc, length-append, length-replicate, get_or-drop, drop-drop, drop_at, take-replicate, drop-replicate}
 use Rattle.std.proofs.lemmas.List.Sums.{sum_by-cons}
 use Rattle.text.specs.Names.{byte}
 use Rattle.packer.specs.declared.source.Source.{Source}
 use Rattle.packer.specs.Rules.{name_of, text_of, bytes}
-use Rattle.packer.specs.Written.{number, padded, row_of, rows, texts, written}
+use Rattle.packer.specs.Written.{number, padded, row_of, rows, texts}
 
 -- each name has room in its row
 abbrev pub Short : List Source → Type 0
@@ -15,10 +15,6 @@ Short ss = All (λ s. length s.name.now ≤ 32) ss
 -- a byte of what is left behind the first n
 pub byte_at : (s l : List ℕ) (n i j : ℕ) → drop n s ≡ l → n + i ≡ j → byte s j ≡ byte l i
 byte_at s l n i j e p = ap (byte s) (sym p) ∙ sym (get_or-drop n s i 0) ∙ ap (λ m. byte m i) e
-
--- a number is what its two bytes say
-pub number_back : (n : ℕ) → n % 256 + 256 * (n / 256) ≡ n
-number_back n = omega arith
 
 pub length_padded : (n : List ℕ) → length n ≤ 32 → length (padded n) ≡ 32
 length_padded n h = simp (length-append, length-replicate) (omega arith)
@@ -98,35 +94,3 @@ row_written v v1 v2 v3 v4 s at e1 e2 e3 e4 =
     e4
     ∙ ap (λ u. u ++ size) (e3 ∙ ap (λ u. u ++ number at) (e2 ∙ ap (λ u. v1 ++ u) (zeros_part (length n)) ∙ ap (λ u. u ++ zeros) e1))
     ∙ four_parts v n zeros (number at) size
-
--- one more row, and the last one, where v has been written and e is to be
-pub rows_more : (v u e : List ℕ) (ss : List Source) (i at : ℕ) (d : Source) → i < length ss → u ≡ v ++ row_of (get_or ss i d) at → v ++ rows (drop i ss) at ≡ e → u ++ rows (drop (i + 1) ss) (at + length (get_or ss i d).text.now) ≡ e
-unfolding rows
-rows_more v u e ss i at d l told inv =
-    let behind = rows (drop (i + 1) ss) (at + length (get_or ss i d).text.now) in
-    ap (λ w. w ++ behind) told
-    ∙ append_assoc v (row_of (get_or ss i d) at) behind
-    ∙ ap (λ w. v ++ w) (sym (at_drop_more (λ xs. rows xs at) ss i d l))
-    ∙ inv
-
-pub rows_all : (v e : List ℕ) (ss : List Source) (i at : ℕ) → length ss ≤ i → v ++ rows (drop i ss) at ≡ e → v ≡ e
-unfolding rows
-rows_all v e ss i at l inv = sym (append-nil v) ∙ ap (λ w. v ++ w) (sym (at_drop_all (λ xs. rows xs at) ss i l)) ∙ inv
-
--- one more text, and the last one
-pub texts_more : (v u e : List ℕ) (ss : List Source) (i : ℕ) (d : Source) → i < length ss → u ≡ v ++ (get_or ss i d).text.now → v ++ texts (drop i ss) ≡ e → u ++ texts (drop (i + 1) ss) ≡ e
-texts_more v u e ss i d l told inv =
-    let behind = texts (drop (i + 1) ss) in
-    ap (λ w. w ++ behind) told
-    ∙ append_assoc v (get_or ss i d).text.now behind
-    ∙ ap (λ w. v ++ w) (sym (at_drop_more texts ss i d l))
-    ∙ inv
-
-pub texts_all : (v e : List ℕ) (ss : List Source) (i : ℕ) → length ss ≤ i → v ++ texts (drop i ss) ≡ e → v ≡ e
-texts_all v e ss i l inv = sym (append-nil v) ∙ ap (λ w. v ++ w) (sym (at_drop_all texts ss i l)) ∙ inv
-
--- the whole, written in three parts
-pub all_written : (v v1 v2 v3 : List ℕ) (ss : List Source) → v ≡ [] → v1 ≡ v ++ number (length ss) → v2 ≡ v1 ++ rows ss (2 + 36 * length ss) → v3 ≡ v2 ++ texts ss → v3 ≡ written ss
-all_written v v1 v2 v3 ss e e1 e2 e3 =
-    e3
-    ∙ ap (λ u. u ++ texts ss) (e2 ∙ ap (λ u. u ++ rows ss (2 + 36 * length ss)) (e1 ∙ ap (λ u. u ++ number (length ss)) e))

@@ -12,7 +12,7 @@ use Rattle.packer.specs.declared.source.Source.{Source}
 use Rattle.packer.specs.Rules.{name_of, text_of, bytes, size_upto}
 use Rattle.packer.specs.Written.{number, padded, rows, texts, written, Writable}
 use Rattle.packer.proofs.Places.{bytes_more, bytes_within}
-use Rattle.packer.proofs.Bytes.{Short, byte_at, number_back, length_padded, length_rows, length_texts, rows_at, texts_at}
+use Rattle.packer.proofs.Bytes.{Short, byte_at, length_padded, length_rows, length_texts, rows_at, texts_at}
 
 -- a name has no zero, so the zeros behind it are told from it
 no_zero : (n : List ℕ) → Named n → (k : ℕ) → k < length n → byte n k ≡ 0 → ⊥
@@ -45,7 +45,7 @@ module _ (ss : List Source) (w : Writable ss) where
   short = short_from_named ss w.named
 
   pub counted : count s ≡ length ss
-  counted = number_back (length ss)
+  counted = omega arith
 
   long : length s ≡ 2 + 36 * length ss + bytes ss
   long =
@@ -85,14 +85,14 @@ module _ (ss : List Source) (w : Writable ss) where
       let told = fields_at k l in
       let low = byte_at s _ (row k + 32) 0 (row k + 32) told.1 (omega arith) in
       let high = byte_at s _ (row k + 32) 1 (row k + 32 + 1) told.1 refl in
-      omega (arith, low, high, number_back (size_upto ss k))
+      omega (arith, low, high)
 
   pub size_is : (k : ℕ) → k < length ss → size s k ≡ length (text_of ss k)
   size_is k l =
       let told = fields_at k l in
       let low = byte_at s _ (row k + 32) 2 (row k + 34) told.1 (omega arith) in
       let high = byte_at s _ (row k + 32) 3 (row k + 34 + 1) told.1 (omega arith) in
-      omega (arith, low, high, number_back (length (text_of ss k)))
+      omega (arith, low, high)
 
   -- where the k-th text starts
   text_at : (k : ℕ) → k < length ss → (rest : List ℕ) × (drop (size_upto ss k) s ≡ text_of ss k ++ rest)

@@ -20,12 +20,10 @@ fn is_new(sources: &[Source<'_>], i: usize) -> bool
     requires { i < length sources.now }
     ensures { MatchBool result (New sources.now i) (Taken sources.now i) }
 {
-    for j in 0..i {
-        if text::same(sources[j].name, sources[i].name) {
-            return false;
-        }
-    }
-    true
+    let name = sources[i].name;
+    sources[..i]
+        .iter()
+        .all(|source| !text::same(source.name, name))
 }
 
 /// Checks the source `i`, before whose text the bundle has `size` bytes, and answers how many it
@@ -59,6 +57,7 @@ pub fn check_sources(sources: &[Source<'_>]) -> Result<(), PackFault>
         return Err(PackFault::TooManyEntries);
     }
     let mut size = head_len(sources.len());
+    // By number: the check of a source reads those before it too, and its fault tells the number.
     for i in 0..sources.len() {
         size = check_source(sources, i, size)?;
     }

@@ -17,7 +17,7 @@ fn push_number(out: &mut Vec<u8>, n: usize) -> Result<(), AllocError>
     requires { n ≤ 65535 }
     ensures { OnOk result (out.new.items ≡ out.old.items ++ number n) }
 {
-    out.extend_from_slice(&[(n % 256) as u8, (n / 256) as u8])
+    out.extend_from_slice(&(n as u16).to_le_bytes())
 }
 
 /// Writes the row of a source whose text starts at `start`.
@@ -33,6 +33,7 @@ fn push_row(out: &mut Vec<u8>, source: Source<'_>, start: usize) -> Result<(), A
 }
 
 /// Writes the table of contents, behind which the texts start.
+#[tactic(auto, using(crate::proofs::Places::source_read, std::proofs::lemmas::Grind::common_steps), unfolding(crate::specs::Written::rows))]
 fn push_rows(out: &mut Vec<u8>, sources: &[Source<'_>]) -> Result<(), AllocError>
     requires { Writable sources.now }
     ensures { OnOk result (out.new.items ≡ out.old.items ++ rows sources.now (2 + 36 * length sources.now)) }

@@ -1,17 +1,14 @@
-use Rattle.std.proofs.Common.{◌<◌, length, sym, refl, ◌∙◌, arith, below_more}
-use Rattle.std.proofs.lemmas.Bool.{false≢true}
-use Rattle.packer.proofs.Places.{name_read}
+use Rattle.std.proofs.Common.{◌≡◌, take, rules}
+use Rattle.std.proofs.lemmas.Iterator.{YieldsList-from_slice, cases_from_all}
+use borrow.Author.Tests.{tests}
+use Rattle.packer.specs.Rules.{name_of}
+use Rattle.packer.proofs.Places.{name_read, asked_before}
 use Rattle.packer.proofs.check.is_new.Goals as goal
 
-pub returns-then-same : goal.returns-then-same
-returns-then-same c =
+pub returns : goal.returns
+returns c =
     let ss = c.args.sources.now in
-    let l : c.loop-j.j < length ss = omega arith in
-    (c.loop-j.j, c.loop-j-test.true, sym (name_read ss _ l) ∙ c.if-same.ensures.0 refl ∙ name_read ss _ c.requires)
-
-pub loop-j-preserved : goal.loop-j-preserved
-loop-j-preserved c =
-    let ss = c.args.sources.now in
-    let l : c.loop-j.j < length ss = omega arith in
-    below_more _ _ c.loop-j.invariant
-    (λ e. false≢true (c.if-same.ensures.1 (name_read ss _ l ∙ e ∙ sym (name_read ss _ c.requires))))
+    let i = c.args.i in
+    let here = name_read ss i c.requires in
+    asked_before ss i c.all.result c.requires
+    (cases_from_all c.all.new.self _ _ (λ s. s.name.now ≡ name_of ss i → ⊥) (λ s. s.name.now ≡ name_of ss i) c.all.ensures.ran (YieldsList-from_slice (take i ss) cc) (λ x q k. search (rules, tests, here)) (λ x q k. search (rules, tests, here)))
