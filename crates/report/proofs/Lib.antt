@@ -1,2 +1,2 @@
-pub mod Growing
-pub mod Locating
+pub mod Lines
+pub mod Tables

@@ -2,14 +2,15 @@
 #![tactic(auto)]
 
 mod chips;
-mod columns;
 mod faults;
 mod listing;
 mod lists;
 mod outlines;
+mod page;
 mod place;
-mod wording;
+mod refusals;
 
-pub use lists::{Report, list};
-pub use outlines::{outline, refused};
+pub use lists::list;
+pub use outlines::outline;
 pub use place::{Spot, locate};
+pub use refusals::{Refusal, refused};

@@ -1,7 +1,9 @@
 //! Where a byte of a text stands, for a person: line, column, and the line itself.
-ghost use Rattle.std.specs.Prelude.{◌≡◌, ℕ, ◌+◌, ◌-◌, ◌<◌, ◌≤◌, min, ◌⊎◌, length, ◌≢◌};
+ghost use Rattle.std.specs.Prelude.{◌≡◌, ◌≢◌, ◌==◌, ◌⊎◌, ℕ, suc, ◌<◌, ◌≤◌, min, length, count_by};
 ghost use Rattle.text.specs.Names.{byte as byte_at};
-ghost use Rattle.report.specs.Lines.{LineOf, newlines};
+ghost use Rattle.report.specs.Lines.{LineOf};
+
+use text::line_len;
 
 /// A line of a text, and a place in it. Lines and columns count from 1.
 #[derive(Clone, Copy)]
@@ -13,19 +15,20 @@ pub struct Spot {
     pub end: usize,
 }
 
-/// The first newline from `from` on, or the text's end.
-fn line_end(text: &[u8], from: usize) -> usize
-    requires { from ≤ length text.now }
-    ensures after { from ≤ result }
-    ensures within { result ≤ length text.now }
-    ensures inside { (k : ℕ) → from ≤ k → k < result → byte_at text.now k ≢ 10 }
-    ensures ends { result < length text.now → byte_at text.now result ≡ 10 }
+/// How many newlines there are.
+fn newlines(text: &[u8]) -> usize
+    ensures { result ≡ count_by (λ b. b == 10) text.now }
 {
-    let mut end = from;
-    while end < text.len() && text[end] != b'\n' {
-        end += 1;
-    }
-    end
+    text.iter().filter(|b| **b == b'\n').count()
+}
+
+/// Where the last line begins.
+fn last_line(text: &[u8]) -> usize
+    ensures within { result ≤ length text.now }
+    ensures begins { (result ≡ 0) ⊎ ((k : ℕ) × (suc k ≡ result) × (byte_at text.now k ≡ 10)) }
+    ensures before { (k : ℕ) → result ≤ k → k < length text.now → byte_at text.now k ≢ 10 }
+{
+    text.iter().rposition(|b| *b == b'\n').map_or(0, |i| i + 1)
 }
 
 /// Where the byte stands; a byte past the text's end is taken for the end.
@@ -33,18 +36,12 @@ pub fn locate(text: &[u8], byte: usize) -> Spot
     ensures { LineOf text.now (min byte (length text.now)) result.line result.column result.start result.end }
 {
     let at = byte.min(text.len());
-    let mut line = 1;
-    let mut start = 0;
-    for i in 0..at {
-        if text[i] == b'\n' {
-            line += 1;
-            start = i + 1;
-        }
-    }
+    let (before, behind) = text.split_at(at);
+    let start = last_line(before);
     Spot {
-        line,
+        line: newlines(before) + 1,
         column: at - start + 1,
         start,
-        end: line_end(text, at),
+        end: at + line_len(behind),
     }
 }

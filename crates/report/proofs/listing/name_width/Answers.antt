@@ -1,17 +1,14 @@
-use Rattle.std.proofs.Common.{max, length, sym, ap, ◌∙◌, add-one, arith}
-use Rattle.bundle.proofs.Opening.{each_lies}
-use Rattle.report.specs.Columns.{widest}
+use Rattle.std.proofs.Common.{ap, ◌∙◌, length, unwrap_or, rules}
+use Rattle.std.proofs.lemmas.Iterator.{YieldsList-from_map}
+use Rattle.std.proofs.lemmas.Iterator.Consumers.{YieldsList-at, reduce_from_yields_List}
+use Rattle.std.proofs.lemmas.List.Folds.{max_of_map}
+use Rattle.bundle.proofs.Finding.{gives_names, names_left}
+use Rattle.report.proofs.Tables.{widest_is}
 use Rattle.report.proofs.listing.name_width.Goals as goal
-use Rattle.report.proofs.listing.name_width.Goals.{in-Some, in_default}
 
-pub loop-k-preserved : goal.loop-k-preserved
-loop-k-preserved c =
-    let s = c.args.bundle.now.bytes.now in
-    let k = c.loop-k.k in
-    elim c.match-entry.branch [
-      | in-Some w ↦
-          w.width-is ∙ w.max-width.ensures
-          ∙ (λ i. max (c.loop-k.invariant i) (length (w.in-Some.ensures.named i)))
-          ∙ sym (ap (widest s) (add-one k))
-      | in_default w ↦ absurd (w.in_default.ensures (each_lies _ c.requires k (omega (arith, c.count-k-end.ensures))))
-    ]
+pub returns : goal.returns
+returns c =
+    c.unwrap_or.ensures
+    ∙ ap (λ r. unwrap_or r 0) (reduce_from_yields_List _ c.map.result c.max.result c.max.ensures.ran (YieldsList-from_map _ length (YieldsList-at c.map.ensures.source (gives_names c.entries.result)) c.map.ensures.closure (λ x r q k. search rules)))
+    ∙ max_of_map length (names_left c.entries.result)
+    ∙ widest_is c.args.bundle.now c.entries.result c.entries.ensures.bundle c.entries.ensures.first

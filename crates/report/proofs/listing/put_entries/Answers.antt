@@ -1,21 +1,21 @@
-use Rattle.std.proofs.Common.{◌++◌, vec_items, sym, ap, ◌∙◌, add-one, arith}
-use Rattle.bundle.proofs.Opening.{each_lies}
+use Rattle.std.proofs.Common.{◌≡◌, ◌+◌, ◌++◌, vec_items, sym, ap, ◌∙◌, add-one, append_assoc}
 use Rattle.report.specs.Columns.{line, lines}
-use Rattle.report.proofs.Growing.{grown}
+use Rattle.reader.proofs.Filling.{entry_at}
 use Rattle.report.proofs.listing.put_entries.Goals as goal
-use Rattle.report.proofs.listing.put_entries.Goals.{in-Some+in_ok-put_entry, in_default}
 
 pub loop-k-preserved : goal.loop-k-preserved
 loop-k-preserved c =
-    let bundle = c.args.bundle.now in
-    let s = bundle.bytes.now in
-    let page = vec_items c.args.page.now in
+    let s = c.args.bundle.now.bytes.now in
+    let page = vec_items c.args.page.now.bytes in
     let width = c.args.width in
-    let k = c.loop-k.k in
-    elim c.match-entry.branch [
-      | in-Some+in_ok-put_entry w ↦
-          ap vec_items w.page-is
-          ∙ grown page (lines s width k) (line s width k) c.loop-k.invariant (w.in_ok-put_entry.ensures bundle w.in-Some.ensures)
-          ∙ sym (ap (λ n. page ++ lines s width n) (add-one k))
-      | in_default w ↦ absurd (w.in_default.ensures (each_lies _ c.requires k (omega (arith, c.count-k-end.ensures))))
-    ]
+    let step = c.in-Some.ensures.steps in
+    let kept = c.loop-k.invariant in
+    let at = entry_at c.args.bundle.now c.loop-k.k-iterator.iter c.loop-k.k-iterator.count c.in-Some.k c.in-Some.entry kept.0 kept.1 step.1 step.0.1.0 in
+    let k : c.in-Some.k + 1 ≡ c.next.new.self.count = ap (λ n. n + 1) step.1 ∙ sym step.2 in (
+      step.0.0 ∙ kept.0,
+      step.0.1.1 ∙ ap (λ n. n + 1) kept.1 ∙ sym step.2,
+      c.in_ok-put_entry.ensures c.args.bundle.now at
+          ∙ ap (λ l. l ++ line s width c.in-Some.k) (kept.2 ∙ ap (λ n. page ++ lines s width n) (sym step.1))
+          ∙ append_assoc page (lines s width c.in-Some.k) (line s width c.in-Some.k)
+          ∙ ap (λ n. page ++ lines s width n) (sym (add-one c.in-Some.k) ∙ k),
+    )

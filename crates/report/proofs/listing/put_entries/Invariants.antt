@@ -3,4 +3,7 @@ use Rattle.report.specs.Columns.{lines}
 use Rattle.report.proofs.listing.put_entries.Given as goal
 
 abbrev pub invariant-loop-k : goal.invariant-loop-k
-invariant-loop-k l = vec_items l.page ≡ vec_items l.initial.page ++ lines l.bundle.bytes.now l.width l.k
+invariant-loop-k l =
+    (l.k-iterator.iter.bundle ≡ l.bundle)
+    × (l.k-iterator.iter.next ≡ l.k-iterator.count)
+    × (vec_items l.page.bytes ≡ vec_items l.initial.page.bytes ++ lines l.bundle.bytes.now l.width l.k-iterator.count)

@@ -1,8 +1,9 @@
-use Rattle.std.proofs.Common.{◌≡◌, ℕ, ◌+◌, List, [], ◌∷◌, ◌++◌, length, vec_items, codes, decimal, ap, ◌∙◌, arith}
+use Rattle.std.proofs.Common.{◌≡◌, ℕ, ◌+◌, List, [], ◌∷◌, ◌++◌, length, codes, decimal, ap, ◌∙◌, arith, rules}
+use Rattle.std.proofs.lemmas.List.{append_assoc}
 use Rattle.std.proofs.lemmas.List.Edits.{length-between}
+use Rattle.std.proofs.lemmas.Result.{on_ok_weaker}
 use Rattle.bundle.specs.Layout.{start, size}
 use Rattle.report.specs.Columns.{left, right}
-use Rattle.report.proofs.Growing.{grown}
 use Rattle.report.proofs.listing.put_entry.Goals as goal
 
 -- the line, from what the entry says
@@ -14,23 +15,12 @@ same_line k w a b e = cc
 
 pub returns : goal.returns
 unfolding written
-returns c = λ b at.
-    let page = vec_items c.args.page.now in
-    let k = c.args.k in
-    let w = c.args.width in
+returns c =
+    let page = c.args.page.now.bytes.items in
     let entry = c.args.entry.now in
+    on_ok_weaker c.put-4.result (λ h b at.
     let bytes = b.bytes.now in
-    let n = right 3 (decimal k) in
-    let nn = n ++ codes " " ++ left w entry.name.now in
-    let ns = nn ++ codes " " ++ right 5 (decimal entry.start) in
-    let long : length entry.text.now ≡ size bytes k =
-    ap length at.holds ∙ length-between bytes (start bytes k) (start bytes k + size bytes k) at.lies.within ∙ (omega arith) in
-    let g1 = c.in_ok-put_right.ensures in
-    let g2 = grown page n (codes " ") g1 c.in_ok-push.ensures.items in
-    let g3 = grown page (n ++ codes " ") (left w entry.name.now) g2 c.in_ok-put_left.ensures in
-    let g4 = grown page nn (codes " ") g3 c.in_ok-push-2.ensures.items in
-    let g5 = grown page (nn ++ codes " ") (right 5 (decimal entry.start)) g4 c.in_ok-put_right-2.ensures in
-    let g6 = grown page ns (codes " ") g5 c.in_ok-push-3.ensures.items in
-    let g7 = grown page (ns ++ codes " ") (right 5 (decimal (length entry.text.now))) g6 c.in_ok-put_right-3.ensures in
-    let g8 = grown page (ns ++ codes " " ++ right 5 (decimal (length entry.text.now))) (10 ∷ []) g7 c.in_ok-push-4.ensures.items in
-    g8 ∙ ap (λ l. page ++ l) (same_line k w at.named at.starts long)
+    let long : length entry.text.now ≡ size bytes c.args.k =
+    ap length at.holds ∙ length-between bytes (start bytes c.args.k) (start bytes c.args.k + size bytes c.args.k) at.lies.within ∙ (omega arith) in
+    let p : c.put-4.new.self.bytes.items ≡ page ++ written c.args.k c.args.width entry.name.now entry.start (length entry.text.now) = search (rules, append_assoc) in
+    p ∙ ap (λ l. page ++ l) (same_line c.args.k c.args.width at.named at.starts long)) c.put-4.ensures

@@ -1,9 +1,0 @@
-use Rattle.std.proofs.Common.{◌≡◌, ℕ, ◌-◌, ◌<◌, ◌≤◌, length}
-use Rattle.text.specs.Names.{byte}
-use Rattle.report.proofs.place.line_end.Given as goal
-
-abbrev pub invariant-loop-end : goal.invariant-loop-end
-invariant-loop-end l = (l.from ≤ l.end) × (l.end ≤ length l.text) × ((k : ℕ) → l.from ≤ k → k < l.end → byte l.text k ≡ 10 → ⊥)
-
-abbrev pub decreases-loop-end : goal.decreases-loop-end
-decreases-loop-end l = length l.text - l.end
