@@ -83,6 +83,7 @@ impl<'c> Catalogue<'c> {
 }
 
 /// Memory for a catalogue of just enough records, for a caller that has none of its own.
+#[derive(Drop)]
 pub struct Room {
     pub pins: [PinRecord; PINS],
     pub parts: [PartRecord; PARTS],

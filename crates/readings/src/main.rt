@@ -4,7 +4,7 @@
 //! the answers that are expected.
 #![tactic(auto)]
 
-use catalogue::{Catalogue, Counts, Room};
+use catalogue::{Counts, Room};
 use fault::Fault;
 use reader::read;
 use samples::{Stop, bundle_of, print_fault};
@@ -25,12 +25,8 @@ fn print_verdict(rt: &HostRuntime, verdict: Result<Counts, Fault>) -> io::Result
 
 fn main(rt: HostRuntime) -> Result<(), Stop> {
     let heap = rt.alloc();
-    let Room {
-        mut pins,
-        mut parts,
-        mut connections,
-    } = Room::new();
-    let mut catalogue = Catalogue::new(&mut pins, &mut parts, &mut connections);
+    let mut room = Room::new();
+    let mut catalogue = room.catalogue();
     for line in rt.lines(heap) {
         let bundle = bundle_of(heap, line?.as_str())?;
         print_verdict(&rt, read(bundle.as_slice(), &mut catalogue))?;

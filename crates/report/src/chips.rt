@@ -4,25 +4,8 @@ ghost use Rattle.bundle.specs.Layout.{Layout};
 
 use crate::page::Page;
 use bundle::{Bundle, Entry};
-use catalogue::{
-    Catalogue, ConnectionRecord, Counts, FarEnd, PartRecord, PinRecord, Side, Subscript,
-};
+use catalogue::{Catalogue, ConnectionRecord, Counts, FarEnd, PartRecord, PinRecord, Side};
 use std::alloc::{AllocError, Global};
-use std::fmt;
-
-/// A subscript as it is written.
-#[derive(Clone, Copy)]
-struct Bits(Subscript);
-
-impl fmt::Display for Bits {
-    fn fmt<W: fmt::Write>(&self, f: &mut fmt::Formatter<W>) -> fmt::Result {
-        match self.0 {
-            Subscript::All => Ok(()),
-            Subscript::Bit(n) => write!(f, "[{n}]"),
-            Subscript::Range(n, m) => write!(f, "[{n}..{m}]"),
-        }
-    }
-}
 
 /// Appends a pin, with its width if that is not 1.
 fn put_pin(page: &mut Page, text: &[u8], pin: &PinRecord) -> Result<(), AllocError> {
@@ -62,7 +45,6 @@ fn put_far(page: &mut Page, text: &[u8], far: FarEnd) -> Result<(), AllocError> 
     match far {
         FarEnd::Constant(value) => write!(page, "{value}"),
         FarEnd::Pin(name, bits) => {
-            let bits = Bits(bits);
             page.put(name.cut(text))?;
             write!(page, "{bits}")
         }
@@ -80,7 +62,7 @@ fn put_part(
     page.put(part.name.cut(text))?;
     let mut lead: &[u8] = b"(";
     for c in connections.iter().skip(part.connections).take(part.count) {
-        let bits = Bits(c.bits);
+        let bits = c.bits;
         page.put(lead)?;
         page.put(c.name.cut(text))?;
         write!(page, "{bits}=")?;

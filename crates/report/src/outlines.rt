@@ -7,7 +7,7 @@ ghost use Rattle.report.specs.Refusals.{WhenTold};
 use crate::chips::outline_text;
 use crate::refusals::{Refusal, refused};
 use bundle::Bundle;
-use catalogue::{Catalogue, Room};
+use catalogue::Room;
 use reader::read;
 use std::alloc::Global;
 
@@ -17,12 +17,8 @@ pub fn outline(heap: Global, bytes: &[u8]) -> Result<Vec<u8>, Refusal>
         (λ _. Read bytes.now)
         (λ r. WhenTold r (Unread bytes.now room)) }
 {
-    let Room {
-        mut pins,
-        mut parts,
-        mut connections,
-    } = Room::new();
-    let mut catalogue = Catalogue::new(&mut pins, &mut parts, &mut connections);
+    let mut room = Room::new();
+    let mut catalogue = room.catalogue();
     match read(bytes, &mut catalogue) {
         Ok(_) => Ok(outline_text(heap, bytes, &catalogue)?),
         Err(fault) => Err(refused(heap, bytes, fault)),
