@@ -10,7 +10,6 @@ use Rattle.catalogue.specs.declared.records.ConnectionRecord.{ConnectionRecord}
 use Rattle.catalogue.specs.declared.room.Counts.{Counts}
 use Rattle.catalogue.specs.Records.{Records, blank_pin, blank_part, blank_connection}
 use Rattle.catalogue.specs.Holding.{Slices}
-use Rattle.reader.specs.Verdicts.{made_of}
 use Rattle.reader.proofs.OneBundle.{one_reading}
 use Rattle.wellformed.proofs.Reading.{read_well_formed}
 use Rattle.joiner.specs.Joined.{joined, joined_part, joined_connection}
@@ -60,7 +59,7 @@ module _ (m : Model) (s : List ℕ) (z : Slices) (n : Counts) (h : ReadInto s z 
 
   -- the records are joined in their place
   all_joined : (ps : List PinRecord) (qs : List PartRecord) (cs : List ConnectionRecord) → Complete m s ps qs cs →
-      JoinedInto m s (made_of z.pins (qs ++ post_of 0 (n.parts - 0) z.parts) (cs ++ post_of 0 (n.connections - 0) z.connections)) n
+      JoinedInto m s (record { pins = z.pins; parts = qs ++ post_of 0 (n.parts - 0) z.parts; connections = cs ++ post_of 0 (n.connections - 0) z.connections }) n
   all_joined ps qs cs c =
       let same : c.records ≡ r = one_reading s (count s) c.records r c.read h.read in
       let parts : qs ≡ (joined m s r).parts = c.parts_are ∙ ap (λ x. (joined m s x).parts) same in
@@ -83,5 +82,5 @@ module _ (m : Model) (s : List ℕ) (z : Slices) (n : Counts) (h : ReadInto s z 
     opened_stage = subst (λ (x : List ℕ). LineStage m x (take (n.pins - 0) z.pins) (take (n.parts - 0) z.parts) (take (n.connections - 0) z.connections) 0) (sym same) first_stage
 
     pub opened_joined : (ps : List PinRecord) (qs : List PartRecord) (cs : List ConnectionRecord) → Complete m b ps qs cs →
-        JoinedInto m s (made_of z.pins (qs ++ post_of 0 (n.parts - 0) z.parts) (cs ++ post_of 0 (n.connections - 0) z.connections)) n
+        JoinedInto m s (record { pins = z.pins; parts = qs ++ post_of 0 (n.parts - 0) z.parts; connections = cs ++ post_of 0 (n.connections - 0) z.connections }) n
     opened_joined ps qs cs c = all_joined ps qs cs (subst (λ (x : List ℕ). Complete m x ps qs cs) same c)
