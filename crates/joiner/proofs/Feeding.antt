@@ -22,18 +22,23 @@ pub some_unfed : (cs : List ConnectionRecord) (f : Feed) (r : Bool) →
     (AllWithin (λ b. FedIn cs (record { sink = f.sink; first = b; width = 1 })) (range_with_len f.first f.width) 0 (length (range_with_len f.first f.width))) → Decides r (OpenIn cs f)
 some_unfed cs f true h =
     let l : h.0 < f.width = omega (arith, h.1, length-range_with_len f.first f.width) in
-    let at : get_or (range_with_len f.first f.width) h.0 0 ≡ f.first + h.0 = get_or-range_with_len f.first f.width h.0 0 l in
-    (λ _. record {
-      bit = f.first + h.0;
-      among = (refl, omega arith, omega arith);
-      unfed = λ j m u. h.2 0 (record { by = j; below = m; bit = f.first + h.0; feeds = u; among = (refl, omega (arith, at), omega (arith, at)) });
-    }, λ _. refl)
-some_unfed cs f false h = (λ e. absurd (false≢true e), λ o.
-    let k : ℕ = o.bit - f.first in
-    let l : k < f.width = omega (arith, o.among.1, o.among.2) in
-    let at : get_or (range_with_len f.first f.width) k 0 ≡ o.bit = get_or-range_with_len f.first f.width k 0 l ∙ omega (arith, o.among.1) in
-    let fed = h k 0 (omega arith) (omega (arith, length-range_with_len f.first f.width)) in
-    absurd (o.unfed fed.by fed.below (subst (λ (x : ℕ). Feeds (get_or cs fed.by blank_connection) f.sink x) at (one_bit cs f.sink _ fed))))
+    let at : get_or (range_with_len f.first f.width) h.0 0 ≡ f.first + h.0 = get_or-range_with_len f.first f.width h.0 0 l in (
+      λ _. record {
+        bit = f.first + h.0;
+        among = (refl, omega arith, omega arith);
+        unfed = λ j m u. h.2 0 (record { by = j; below = m; bit = f.first + h.0; feeds = u; among = (refl, omega (arith, at), omega (arith, at)) });
+      },
+      λ _. refl,
+    )
+some_unfed cs f false h = (
+  λ e. absurd (false≢true e),
+  λ o.
+      let k : ℕ = o.bit - f.first in
+      let l : k < f.width = omega (arith, o.among.1, o.among.2) in
+      let at : get_or (range_with_len f.first f.width) k 0 ≡ o.bit = get_or-range_with_len f.first f.width k 0 l ∙ omega (arith, o.among.1) in
+      let fed = h k 0 (omega arith) (omega (arith, length-range_with_len f.first f.width)) in
+      absurd (o.unfed fed.by fed.below (subst (λ (x : ℕ). Feeds (get_or cs fed.by blank_connection) f.sink x) at (one_bit cs f.sink _ fed))),
+)
 
 -- earlier connections that feed some of the bits which this one feeds, where none before `from` does
 module _ (cs : List ConnectionRecord) (from i : ℕ) (c : ConnectionRecord) (f : Feed) (l : i < length cs) (e : Some f ≡ feed c) (u : from ≤ i) where

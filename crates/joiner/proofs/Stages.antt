@@ -81,11 +81,6 @@ module _ {m : Model} {s : List ℕ} {pins : List PinRecord} {parts : List PartRe
       let k = g.known q l in
       k.1 ∙ ap Some (sym (ap (λ x. x.piece) (g.parts_are.done q l) ∙ ap (λ o. unwrap_or o (Entry 0)) k.1))
 
--- the pins of a stage fit
-pub pins_fit : {m : Model} {s : List ℕ} {pins : List PinRecord} {parts : List PartRecord} {cs : List ConnectionRecord} {p n : ℕ} → Stage m s pins parts cs p n → (i : ℕ) → i < length pins → PinFits (get_or pins i blank_pin)
-pins_fit g =
-    subst (λ (ps : List PinRecord). (i : ℕ) → i < length ps → PinFits (get_or ps i blank_pin)) g.pins_are (formed g).fits
-
 -- a chip that a name means is an entry of the bundle
 pub piece_below : (m : Model) (s n : List ℕ) (x : Piece) → piece_of m s n ≡ Some x → EntryBelow (count s) x
 piece_below m s n (Entry e) h = go (entry_of s n) (first_found (λ k. bytes_eq (name s k) n) (count s)) (m.find n) h

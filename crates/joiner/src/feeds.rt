@@ -89,9 +89,7 @@ fn feeds(connection: &ConnectionRecord, bits: Feed) -> bool
 pub(crate) fn is_fed(connections: &[ConnectionRecord], bits: Feed) -> bool
     ensures { Decides result (FedIn connections.now bits) }
 {
-    connections
-        .iter()
-        .any(|connection| feeds(connection, bits))
+    connections.iter().any(|connection| feeds(connection, bits))
 }
 
 /// Whether none of the connections feeds one of the bits.

@@ -11,7 +11,7 @@ ghost use Rattle.joiner.specs.Lent.{JoinedInto, ReadInto, Unjoined};
 use crate::records::join_records;
 use crate::scope::Scope;
 use bundle::Bundle;
-use catalogue::{Catalogue, Counts};
+use catalogue::{Catalogue, ConnectionRecord, Counts, PartRecord, PinRecord, Table};
 use fault::Fault;
 use kit::Kit;
 use reader::read;
@@ -29,43 +29,54 @@ mod turn;
 pub use join_fault::JoinFault;
 pub use single::verdicts_are_one;
 
-/// Joins the records of a bundle that were read into a catalogue.
-fn join_read<'a, K: Kit>(
+/// Joins the records of a bundle that were read into lent memory, so many.
+fn join_rows<'a, K: Kit>(
     kit: &'a K,
     bytes: &'a [u8],
-    catalogue: &'a mut Catalogue<'_>,
+    counts: Counts,
+    pins: &'a Table<'_, PinRecord>,
+    parts: &mut [PartRecord],
+    connections: &mut [ConnectionRecord],
 ) -> Result<(), Fault>
-    requires { ReadInto bytes.now (slices catalogue.old) (counted catalogue.old) }
-    ensures lent { Lent catalogue.old catalogue.new }
-    ensures long { Long catalogue.old catalogue.new }
-    ensures joins { MatchResult result
-        (λ _. JoinedInto (K.Kit.model kit.now) bytes.now (slices catalogue.new) (counted catalogue.old))
+    requires pins { pins.now.used ≡ counts.pins }
+    requires read { ReadInto bytes.now (record { pins = pins.now.rows.now; parts = parts.old; connections = connections.old }) counts }
+    ensures { MatchResult result
+        (λ _. JoinedInto (K.Kit.model kit.now) bytes.now (record { pins = pins.now.rows.now; parts = parts.new; connections = connections.new }) counts)
         (λ f. Unjoined (K.Kit.model kit.now) bytes.now f) }
-    ensures counted { counted catalogue.new ≡ counted catalogue.old }
 {
-    let Catalogue {
-        pins,
-        parts,
-        connections,
-    } = catalogue;
     let scope = Scope {
         kit,
         bundle: Bundle::open(bytes)?,
         pins: pins.as_slice(),
     };
-    let parts = &mut parts.rows[..parts.used];
-    let connections = &mut connections.rows[..connections.used];
+    let parts = &mut parts[..counts.parts];
+    let connections = &mut connections[..counts.connections];
     join_records(&scope, parts, connections)?;
     Ok(())
 }
 
+/// Joins the records of a bundle that were read into a catalogue.
+fn join_read<K: Kit>(kit: &K, bytes: &[u8], catalogue: &mut Catalogue<'_>) -> Result<(), Fault>
+    requires { ReadInto bytes.now (slices catalogue.old) (counted catalogue.old) }
+    ensures lent { Lent catalogue.old catalogue.new }
+    ensures long { Long catalogue.old catalogue.new }
+    ensures counted { counted catalogue.new ≡ counted catalogue.old }
+    ensures joins { MatchResult result
+        (λ _. JoinedInto (K.Kit.model kit.now) bytes.now (slices catalogue.new) (counted catalogue.new))
+        (λ f. Unjoined (K.Kit.model kit.now) bytes.now f) }
+{
+    let counts = catalogue.counts();
+    let Catalogue {
+        pins,
+        parts,
+        connections,
+    } = catalogue;
+    join_rows(kit, bytes, counts, pins, parts.rows, connections.rows)
+}
+
 /// Reads and joins all texts of a bundle, with a kit, into a catalogue, in place of what it has. A
 /// refusal leaves it blank.
-pub fn join<K: Kit>(
-    kit: &K,
-    bytes: &[u8],
-    catalogue: &mut Catalogue<'_>,
-) -> Result<Counts, Fault>
+pub fn join<K: Kit>(kit: &K, bytes: &[u8], catalogue: &mut Catalogue<'_>) -> Result<Counts, Fault>
     ensures lent { Lent catalogue.old catalogue.new }
     ensures long { Long catalogue.old catalogue.new }
     ensures verdict { MatchResult result
