@@ -1,6 +1,7 @@
 -- When all is joined, either everything is fed, or the first thing that is left open is told.
 use Rattle.std.proofs.Common.{◌≡◌, ℕ, ◌+◌, ◌-◌, ◌<◌, ◌≤◌, ltb, ◌⊎◌, List, length, get_or, Some, None, Option, sym, refl, ap, ◌∙◌, subst, inl, inr, ⊎_elim, arith}
-use Rattle.std.specs.List.{between}
+use Rattle.std.specs.List.{All, between}
+use Rattle.std.proofs.lemmas.List.{get_or_default}
 use Rattle.std.proofs.lemmas.List.FromFn.{fill_by_all}
 use Rattle.std.proofs.lemmas.List.Edits.{length-between, get_or-between}
 use Rattle.std.proofs.lemmas.Bool.{cond-false, le-ltb}
@@ -48,7 +49,7 @@ fed_or_not m s r k b =
 fed_by : (m : Model) (s : List ℕ) (r : Records) (k : Sink) (b : ℕ) → ((Fed m s r k b → ⊥) → ⊥) → Fed m s r k b
 fed_by m s r k b h = ⊎_elim (λ f. f) (λ n. absurd (h n)) (fed_or_not m s r k b)
 
-module _ (m : Model) (s : List ℕ) (pins : List PinRecord) (parts : List PartRecord) (cs : List ConnectionRecord) (g : LineStage m s pins parts cs (length parts)) where
+module _ {m : Model} {s : List ℕ} {pins : List PinRecord} {parts : List PartRecord} {cs : List ConnectionRecord} (g : LineStage m s pins parts cs (length parts)) where
   abbrev st : Stage m s pins parts cs (length parts) g.joined
   st = g.stage
 
@@ -56,7 +57,7 @@ module _ (m : Model) (s : List ℕ) (pins : List PinRecord) (parts : List PartRe
   r = st.records
 
   well : WellFormed s r
-  well = formed m s pins parts cs (length parts) g.joined st
+  well = formed st
 
   parts_long : length parts ≡ length r.parts
   parts_long = st.parts_are.length_is
@@ -99,8 +100,8 @@ module _ (m : Model) (s : List ℕ) (pins : List PinRecord) (parts : List PartRe
         (i, omega (arith, length-between cs from until u), get_or-between cs from until i blank_connection n ∙ ap (λ x. get_or cs x blank_connection) e ∙ at_connection j l);
   }
 
-  pub lines_within : (p : ℕ) → p < length parts → (get_or parts p blank_part).connections + (get_or parts p blank_part).count ≤ length cs
-  lines_within p l = rw (at_part p l) (omega (arith, (well.lines p (omega (arith, parts_long))).within, st.connections_are.length_is))
+  pub lines_within : All (λ p. p.connections + p.count ≤ length cs) parts
+  lines_within p d l = rw (get_or_default parts p d blank_part l, at_part p l) (omega (arith, (well.lines p (omega (arith, parts_long))).within, st.connections_are.length_is))
 
   -- a part is fed within its line
   line_reach : (p : ℕ) → p < length parts → Reach (sink.PartInputs p) (line_of (get_or parts p blank_part) cs)
@@ -155,7 +156,7 @@ module _ (m : Model) (s : List ℕ) (pins : List PinRecord) (parts : List PartRe
   }
 
   piece_at : (p : ℕ) → p < length parts → piece m s r p ≡ Some (get_or parts p blank_part).piece
-  piece_at p l = piece_is m s pins parts cs (length parts) g.joined st p l
+  piece_at p l = piece_is st p l
 
   abbrev line : ℕ → List ConnectionRecord
   line p = line_of (get_or parts p blank_part) cs

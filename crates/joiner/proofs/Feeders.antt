@@ -5,8 +5,6 @@ use Rattle.kit.specs.Models.{Model}
 use Rattle.kit.specs.declared.shape.Side.{Side}
 use Rattle.kit.specs.declared.shape.Side.TheVariants.{In, Out}
 use Rattle.kit.specs.declared.shape.Pin.{Pin}
-use Rattle.kit.specs.declared.shape.Side as records
-use Rattle.kit.specs.declared.shape.Side.TheVariants as side
 use Rattle.catalogue.specs.declared.records.Subscript.{Subscript}
 use Rattle.catalogue.specs.declared.records.Subscript.TheVariants.{All, Bit, Range}
 use Rattle.catalogue.specs.declared.records.FarEnd.{FarEnd}
@@ -75,12 +73,12 @@ module _ (m : Model) (s : List ℕ) (r : Records) (i : ℕ) where
   joint_mentioned None = tt
   joint_mentioned (Some p) = far_mentioned p (connection r i).far
 
-  fed_at_by : (d : records.Side) (t : Target) → Mentioned i t → IfSome (feed_by (joined_connection m s r i) d t) (λ f. FedAt i (connection r i) f.sink)
-  fed_at_by side.In t h = refl
-  fed_at_by side.Out (Constant b) h = tt
-  fed_at_by side.Out (Input b) h = tt
-  fed_at_by side.Out (Output b) h = refl
-  fed_at_by side.Out (Internal k) h = h
+  fed_at_by : (d : Side) (t : Target) → Mentioned i t → IfSome (feed_by (joined_connection m s r i) d t) (λ f. FedAt i (connection r i) f.sink)
+  fed_at_by In t h = refl
+  fed_at_by Out (Constant b) h = tt
+  fed_at_by Out (Input b) h = tt
+  fed_at_by Out (Output b) h = refl
+  fed_at_by Out (Internal k) h = h
 
   -- what the connection i feeds
   pub fed_at : IfSome (feed (joined_connection m s r i)) (λ f. FedAt i (connection r i) f.sink)

@@ -1,26 +1,25 @@
 -- Pins that names mean fit their sides.
-use Rattle.std.proofs.Common.{◌≡◌, ℕ, ◌<◌, ◌≤◌, List, length, get_or, Some, None, Option, refl, ⊎_elim, arith}
+use Rattle.std.proofs.Common.{◌≡◌, ℕ, suc, ◌<◌, ◌≤◌, Bool, true, false, cond, List, [], ◌∷◌, Some, None, Option, refl, ⊎_elim, arith}
 use Rattle.std.specs.Option.{option_map}
+use Rattle.std.specs.List.{All, find}
 use Rattle.std.proofs.lemmas.Bool.{cases_lt}
 use Rattle.kit.specs.Models.{Model, Sound, on}
 use Rattle.kit.specs.declared.shape.Side.{Side}
 use Rattle.kit.specs.declared.shape.Side.TheVariants.{In, Out}
 use Rattle.kit.specs.declared.shape.Pin.{Pin}
 use Rattle.catalogue.specs.declared.records.PinRecord.{PinRecord}
-use Rattle.catalogue.specs.Records.{blank_pin}
+use Rattle.catalogue.specs.Shapes.{shape}
 use Rattle.wellformed.specs.WellFormed.{PinFits}
 use Rattle.joiner.specs.Scopes.{Fit, FitFound}
-use Rattle.joiner.specs.Search.{first_below}
-use Rattle.joiner.specs.Meaning.{declares, declared, shape}
-use Rattle.joiner.proofs.Search.{Found, first_found}
 
 -- pins that a text declares
-pub declared_fits : (s : List ℕ) (ps : List PinRecord) (e : ℕ) (n : List ℕ) → ((i : ℕ) → i < length ps → PinFits (get_or ps i blank_pin)) → FitFound (declared s ps e n)
-declared_fits s ps e n h = go (first_below (λ i. declares s e n (get_or ps i blank_pin)) (length ps)) (first_found (λ i. declares s e n (get_or ps i blank_pin)) (length ps))
+pub first_fits : (P : PinRecord → Bool) (ps : List PinRecord) → All PinFits ps → FitFound (option_map shape (find P ps))
+first_fits P [] h = tt
+first_fits P (p ∷ ps) h = go (P p) (first_fits P ps (λ k d l. h (suc k) d (omega arith)))
   where
-    go : (o : Option ℕ) → Found (λ i. declares s e n (get_or ps i blank_pin)) (length ps) o → FitFound (option_map (λ i. shape (get_or ps i blank_pin)) o)
-    go None f = tt
-    go (Some i) f = let p = h i f.0 in record { some = p.some; within = p.within }
+    go : (b : Bool) → FitFound (option_map shape (find P ps)) → FitFound (option_map shape (cond b (Some p) (find P ps)))
+    go true rest = let f = h 0 p (omega arith) in record { some = f.some; within = f.within }
+    go false rest = rest
 
 -- pins of a kit's kinds
 pub kit_fits : (m : Model) → Sound m → (k : ℕ) (n : List ℕ) → FitFound (m.pin k n)

@@ -7,8 +7,8 @@ use Rattle.std.specs.Option.{option_or, option_map}
 use Rattle.kit.specs.Models.{Model}
 use Rattle.bundle.specs.declared.opened.Bundle.{Bundle}
 use Rattle.bundle.specs.Layout.{count, name}
-use Rattle.bundle.specs.Entries.{Opened, Goes}
-use Rattle.bundle.proofs.Opening.{each_lies}
+use Rattle.bundle.specs.Entries.{Goes}
+use Rattle.bundle.proofs.Opening.{opened, each_lies}
 use Rattle.catalogue.specs.declared.records.ConnectionRecord.{ConnectionRecord}
 use Rattle.catalogue.specs.declared.records.Piece.TheVariants.{Entry, Kind}
 use Rattle.joiner.specs.Meaning.{entry_of, piece_of, far_named, mentions}
@@ -31,18 +31,18 @@ same_false xs ys h = ⊎_elim (λ t. absurd (h ((bytes_eq-Decides xs ys).0 t))) 
 pub other_text : (s : List ℕ) (e : ℕ) (n : List ℕ) (c : ConnectionRecord) → (c.entry ≡ e → ⊥) → mentions s e n c ≡ false
 other_text s e n c h = ap (λ t. t && far_named s e n c.far) (ne_eqb c.entry e h)
 
--- the entry of a name in an opened bundle
-module _ (b : Bundle) (o : Opened b) (n : List ℕ) where
+-- the entry of a name in a bundle
+module _ (b : Bundle) (n : List ℕ) where
   abbrev bytes : List ℕ
   bytes = b.bytes.now
 
   -- an entry below the count that has the name goes by it
   goes : (k : ℕ) → k < count bytes → name bytes k ≡ n → Goes b n k
-  goes k l e = record { lies = each_lies b o k (rw o.counted l); named = e }
+  goes k l e = record { lies = each_lies b (opened b) k (rw b.counted l); named = e }
 
   pub entry_some : (k : ℕ) → Goes b n k → ((j : ℕ) → j < k → Goes b n j → ⊥) → entry_of bytes n ≡ Some k
   entry_some k g h =
-      let l : k < count bytes = omega (arith, g.lies.below, o.counted) in
+      let l : k < count bytes = omega (arith, g.lies.below, b.counted) in
       first_some (λ j. bytes_eq (name bytes j) n) (count bytes) k l (same_true _ _ g.named) (λ j m. same_false _ _ (λ e. h j m (goes j (omega arith) e)))
 
   pub entry_none : ((k : ℕ) → Goes b n k → ⊥) → entry_of bytes n ≡ None

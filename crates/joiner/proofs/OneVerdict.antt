@@ -12,7 +12,7 @@ use Rattle.catalogue.specs.Records.{Records, blank_pin, blank_part, blank_connec
 use Rattle.catalogue.specs.declared.room.Counts.{Counts}
 use Rattle.catalogue.specs.Holding.{Slices, Enough}
 use Rattle.reader.specs.Verdicts as reader
-use Rattle.reader.specs.Verdicts.{ReadUpto, made_of}
+use Rattle.reader.specs.Verdicts.{ReadUpto}
 use Rattle.reader.proofs.OneBundle as reading
 use Rattle.wellformed.specs.Places.{Sooner}
 use Rattle.joiner.specs.Rules as rules
@@ -59,7 +59,7 @@ whole xs d = let e : length xs - length xs ≡ 0 = omega arith in rw (e, append-
 -- a bundle that is read is not refused by reading
 read_on : (s : List ℕ) (old : Slices) (r : Records) (f : Fault) → Enough old → Layout s → ReadUpto s (count s) r → reader.Refusal s old f → ⊥
 read_on s old r f e l u h =
-    reading.read_or_refused s old (made_of r.pins r.parts r.connections) _ f
+    reading.read_or_refused s old (record { pins = r.pins; parts = r.parts; connections = r.connections }) _ f
     (record { enough = e; layout = l; records = r; read = u; holds = record { pins = whole r.pins blank_pin; parts = whole r.parts blank_part; connections = whole r.connections blank_connection }; counted = refl }) h
 
 one_refusal : (m : Model) (s : List ℕ) (old : Slices) (f g : Fault) → Refusal m s old f → Refusal m s old g → f ≡ g

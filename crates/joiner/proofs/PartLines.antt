@@ -16,12 +16,13 @@ use Rattle.joiner.specs.declared.join_fault.JoinFault.TheVariants as refusal
 use Rattle.joiner.specs.Meaning.{word, piece_of, piece}
 use Rattle.joiner.specs.Joined.{with_piece, joined_part}
 use Rattle.joiner.specs.Verdicts.{broken, fault_at}
+use Rattle.joiner.specs.Scopes.{OtherTexts}
 use Rattle.joiner.specs.Stages.{Stage, LineStage, TextFrom, Unjoins}
 use Rattle.joiner.proofs.Firsts.{first_part}
-use Rattle.joiner.proofs.Stages.{upto_more, formed}
+use Rattle.joiner.proofs.Stages.{upto_more, formed, entry_below, others_at}
 
 -- the part p, which is the next
-module _ (m : Model) (s : List ℕ) (pins : List PinRecord) (parts : List PartRecord) (cs : List ConnectionRecord) (p : ℕ) (l : p < length parts) (g : LineStage m s pins parts cs p) where
+module _ {m : Model} {s : List ℕ} {pins : List PinRecord} {parts : List PartRecord} {cs : List ConnectionRecord} {p : ℕ} (l : p < length parts) (g : LineStage m s pins parts cs p) where
   abbrev here : PartRecord
   here = get_or parts p blank_part
 
@@ -38,7 +39,7 @@ module _ (m : Model) (s : List ℕ) (pins : List PinRecord) (parts : List PartRe
   below = omega (arith, st.parts_are.length_is)
 
   well : WellFormed s q
-  well = formed m s pins parts cs p g.joined st
+  well = formed st
 
   -- its connections are the next
   start : g.joined ≡ here.connections
@@ -54,7 +55,7 @@ module _ (m : Model) (s : List ℕ) (pins : List PinRecord) (parts : List PartRe
   named = ap (λ x. piece_of m s (word s x.entry x.name)) is
 
   -- the bytes of its name, as the code has them
-  module _ (b : List ℕ) (bytes : b ≡ word s here.entry here.name) where
+  module _ {b : List ℕ} (bytes : b ≡ word s here.entry here.name) where
     pub unknown_at : None ≡ piece_of m s b → Unjoins m s (refusal.UnknownPart (record { entry = here.entry; byte = here.name.first }))
     unknown_at e =
         let ready : (i : ℕ) → i < (part q p).connections → i < g.joined = λ i h. omega (arith, start, ap (λ x. x.connections) is) in
@@ -67,8 +68,8 @@ module _ (m : Model) (s : List ℕ) (pins : List PinRecord) (parts : List PartRe
           tells = ap (λ x. fault_at cause.UnknownPart (record { entry = x.entry; byte = x.name.first })) is;
         }
 
-    pub stage_in : (x : Piece) → Some x ≡ piece_of m s b → Stage m s pins (set parts p (with_piece here x)) cs (p + 1) here.connections
-    stage_in x e =
+    pub stage_in : {x : Piece} → Some x ≡ piece_of m s b → Stage m s pins (set parts p (with_piece here x)) cs (p + 1) here.connections
+    stage_in {x} e =
         let found : piece m s q p ≡ Some x = sym named ∙ ap (piece_of m s) (sym bytes) ∙ sym e in
         let joined : with_piece here x ≡ joined_part m s q p = ap (λ y. with_piece y x) is ∙ ap (λ o. with_piece (part q p) (unwrap_or o (Entry 0))) (sym found) in
         let earlier : (i : ℕ) → i < here.connections → i < g.joined = λ i h. omega (arith, start) in
@@ -84,7 +85,7 @@ module _ (m : Model) (s : List ℕ) (pins : List PinRecord) (parts : List PartRe
         }
 
 -- inside the line of the part p, which is joined with the piece x
-module _ (m : Model) (s : List ℕ) (pins : List PinRecord) (parts : List PartRecord) (cs : List ConnectionRecord) (p i : ℕ) (x : Piece) (l : p < length parts)
+module _ {m : Model} {s : List ℕ} {pins : List PinRecord} (parts : List PartRecord) {cs : List ConnectionRecord} (p : ℕ) {i : ℕ} (x : Piece) (l : p < length parts)
     (g : Stage m s pins (set parts p (with_piece (get_or parts p blank_part) x)) cs (p + 1) i) where
   abbrev with_it : List PartRecord
   with_it = set parts p (with_piece (get_or parts p blank_part) x)
@@ -106,7 +107,7 @@ module _ (m : Model) (s : List ℕ) (pins : List PinRecord) (parts : List PartRe
   line_is = sym (get_or-set_same parts p (with_piece (get_or parts p blank_part) x) blank_part l) ∙ g.parts_are.done p (omega arith)
 
   fine : WellFormed s w
-  fine = formed m s pins with_it cs (p + 1) i g
+  fine = formed g
 
   -- the next connection is one of the line
   module _ (u : from ≤ i) (v : i < from + many) where
@@ -123,6 +124,12 @@ module _ (m : Model) (s : List ℕ) (pins : List PinRecord) (parts : List PartRe
 
     pub next_others : (n : ℕ) → TextFrom s n p → TextFrom s n (get_or cs i blank_connection).part
     next_others n h = subst (λ (z : ℕ). TextFrom s n z) (sym next_own) h
+
+    pub next_below : (get_or cs i blank_connection).entry < count s
+    next_below = entry_below next_stage i (omega arith) next_within
+
+    pub next_texts : (n : ℕ) → TextFrom s n p → OtherTexts cs n (get_or cs i blank_connection).entry
+    next_texts n h = others_at next_within next_stage n (next_others n h)
 
     pub stage_out : (ds : List ConnectionRecord) → Stage m s pins with_it ds ((get_or cs i blank_connection).part + 1) (i + 1) → Stage m s pins with_it ds (p + 1) (i + 1)
     stage_out ds h = subst (λ (n : ℕ). Stage m s pins with_it ds (n + 1) (i + 1)) next_own h

@@ -8,8 +8,6 @@ use Rattle.fault.specs.declared.Cause.TheVariants as cause
 use Rattle.fault.specs.declared.Place.{Place}
 use Rattle.fault.specs.Faults.{number_of}
 use Rattle.bundle.specs.Layout.{count, name}
-use Rattle.bundle.specs.Entries.{Opened}
-use Rattle.bundle.specs.declared.opened.Bundle.{Bundle}
 use Rattle.kit.specs.Models.{Model}
 use Rattle.kit.specs.declared.shape.Pin.{Pin}
 use Rattle.catalogue.specs.declared.records.Joint.{Joint}
@@ -19,6 +17,7 @@ use Rattle.catalogue.specs.declared.records.PinRecord.{PinRecord}
 use Rattle.catalogue.specs.declared.records.PartRecord.{PartRecord}
 use Rattle.catalogue.specs.declared.records.ConnectionRecord.{ConnectionRecord}
 use Rattle.catalogue.specs.Records.{Records, blank_pin, blank_part, blank_connection}
+use Rattle.catalogue.specs.Shapes.{joint_of}
 use Rattle.wellformed.specs.Places.{part, connection, connection_place}
 use Rattle.wellformed.specs.WellFormed.{WellFormed, PinFits}
 use Rattle.wellformed.proofs.Reading.{read_well_formed}
@@ -30,11 +29,11 @@ use Rattle.joiner.specs.Slices.{slice_of}
 use Rattle.joiner.specs.Meaning.{word, entry_of, piece_of, pin_of, piece, near_pin, near, far_end}
 use Rattle.joiner.specs.Feeding.{Feeds, FedBefore, feed}
 use Rattle.joiner.specs.Feeders.{Feeders}
-use Rattle.joiner.specs.Joined.{with_joint, target_of, joint_of, joint_by, joined_connection}
+use Rattle.joiner.specs.Joined.{with_joint, target_of, joint_by, joined_connection}
 use Rattle.joiner.specs.Rules.{Met, Once, Wrong, no_pin, bad_bits, bad_end, other_width, fed_twice}
 use Rattle.joiner.specs.Faults.{fault_of}
 use Rattle.joiner.specs.Verdicts.{broken, fault_at}
-use Rattle.joiner.specs.Scopes.{EntryBelow, Open, OtherTexts}
+use Rattle.joiner.specs.Scopes.{EntryBelow, OtherTexts}
 use Rattle.joiner.specs.Stages.{Upto, ConnectionsUpto, Stage, TextFrom, Unjoins}
 use Rattle.joiner.proofs.Search.{Found, first_found}
 use Rattle.joiner.proofs.Feeders.{feeders}
@@ -53,7 +52,7 @@ upto_more f g d long n xs x u l e =
       left = λ i m. let ne : i ≢ n = omega arith in rw get_or-set_other (u.left i (omega arith));
     }
 
-module _ (m : Model) (s : List ℕ) (pins : List PinRecord) (parts : List PartRecord) (cs : List ConnectionRecord) (p n : ℕ) (g : Stage m s pins parts cs p n) where
+module _ {m : Model} {s : List ℕ} {pins : List PinRecord} {parts : List PartRecord} {cs : List ConnectionRecord} {p n : ℕ} (g : Stage m s pins parts cs p n) where
   abbrev r : Records
   r = g.records
 
@@ -82,14 +81,6 @@ module _ (m : Model) (s : List ℕ) (pins : List PinRecord) (parts : List PartRe
       let k = g.known q l in
       k.1 ∙ ap Some (sym (ap (λ x. x.piece) (g.parts_are.done q l) ∙ ap (λ o. unwrap_or o (Entry 0)) k.1))
 
--- the pins of a stage fit
-pub pins_fit : (m : Model) (s : List ℕ) (pins : List PinRecord) (parts : List PartRecord) (cs : List ConnectionRecord) (p n : ℕ) → Stage m s pins parts cs p n → (i : ℕ) → i < length pins → PinFits (get_or pins i blank_pin)
-pins_fit m s pins parts cs p n g =
-    subst (λ (ps : List PinRecord). (i : ℕ) → i < length ps → PinFits (get_or ps i blank_pin)) g.pins_are (formed m s pins parts cs p n g).fits
-
-pub open_at : (m : Model) (b : Bundle) (pins : List PinRecord) (parts : List PartRecord) (cs : List ConnectionRecord) (p n : ℕ) → Opened b → Stage m b.bytes.now pins parts cs p n → Open b pins
-open_at m b pins parts cs p n o g = record { opened = o; fits = pins_fit m b.bytes.now pins parts cs p n g }
-
 -- a chip that a name means is an entry of the bundle
 pub piece_below : (m : Model) (s n : List ℕ) (x : Piece) → piece_of m s n ≡ Some x → EntryBelow (count s) x
 piece_below m s n (Entry e) h = go (entry_of s n) (first_found (λ k. bytes_eq (name s k) n) (count s)) (m.find n) h
@@ -101,7 +92,7 @@ piece_below m s n (Entry e) h = go (entry_of s n) (first_found (λ k. bytes_eq (
 piece_below m s n (Kind k) h = tt
 
 -- the next connection, i, whose part is joined
-module _ (m : Model) (s : List ℕ) (pins : List PinRecord) (parts : List PartRecord) (cs : List ConnectionRecord) (i : ℕ) (l : i < length cs)
+module _ {m : Model} {s : List ℕ} {pins : List PinRecord} {parts : List PartRecord} {cs : List ConnectionRecord} {i : ℕ} (l : i < length cs)
     (g : Stage m s pins parts cs ((get_or cs i blank_connection).part + 1) i) where
   abbrev here : ConnectionRecord
   here = get_or cs i blank_connection
@@ -120,20 +111,20 @@ module _ (m : Model) (s : List ℕ) (pins : List PinRecord) (parts : List PartRe
   is = g.connections_are.left i (omega arith)
 
   below : i < length q.connections
-  below = read_below m s pins parts cs (here.part + 1) i g i (omega arith) l
+  below = read_below g i (omega arith) l
 
   pub of_below : EntryBelow (count s) of
-  of_below = piece_below m s _ of (piece_is m s pins parts cs (here.part + 1) i g here.part (omega arith))
+  of_below = piece_below m s _ of (piece_is g here.part (omega arith))
 
   pin_is : near_pin m s q i ≡ pin_of m s pins of (word s here.entry here.name)
   pin_is =
       ap (λ c. chained (piece m s q c.part) (λ x. pin_of m s q.pins x (word s c.entry c.name))) (sym is)
-      ∙ ap (λ o. chained o (λ x. pin_of m s q.pins x (word s here.entry here.name))) (piece_is m s pins parts cs (here.part + 1) i g here.part (omega arith))
+      ∙ ap (λ o. chained o (λ x. pin_of m s q.pins x (word s here.entry here.name))) (piece_is g here.part (omega arith))
       ∙ ap (λ ps. pin_of m s ps of (word s here.entry here.name)) g.pins_are
 
   -- it is of the text of its part
   text_is : (connection q i).entry ≡ (part q here.part).entry
-  text_is = ((formed m s pins parts cs (here.part + 1) i g).belongs i below).same ∙ ap (λ c. (part q c.part).entry) (sym is)
+  text_is = ((formed g).belongs i below).same ∙ ap (λ c. (part q c.part).entry) (sym is)
 
   -- the texts of earlier connections
   pub others_at : (n : ℕ) → TextFrom s n here.part → OtherTexts cs n here.entry
@@ -152,12 +143,12 @@ module _ (m : Model) (s : List ℕ) (pins : List PinRecord) (parts : List PartRe
     read = g.read;
     cause = k;
     place = connection_place q i;
-    unjoined = broken k (connection_place q i) (first_connection m s q (formed m s pins parts cs (here.part + 1) i g) i k below w low known g.met g.once);
+    unjoined = broken k (connection_place q i) (first_connection m s q (formed g) i k below w low known g.met g.once);
     tells = e ∙ ap (λ c. fault_at k (record { entry = c.entry; byte = c.name.first })) is;
   }
 
   -- the bytes of the name at the near end, as the code has them
-  module _ (b : List ℕ) (named : b ≡ word s here.entry here.name) where
+  module _ {b : List ℕ} (named : b ≡ word s here.entry here.name) where
     pin_named : (o : Option Pin) → o ≡ pin_of m s pins of b → near_pin m s q i ≡ o
     pin_named o e = pin_is ∙ ap (pin_of m s pins of) (sym named) ∙ sym e
 
@@ -179,11 +170,11 @@ module _ (m : Model) (s : List ℕ) (pins : List PinRecord) (parts : List PartRe
     low_pin x e c (other_width p g u y z) n = omega arith
     low_pin x e c (fed_twice j b k u y z) n = omega arith
 
-    pub bad_bits_at : (x : Pin) → Some x ≡ pin_of m s pins of b → None ≡ slice_of x here.bits → Unjoins m s (refusal.BadEnd place)
-    bad_bits_at x e f =
+    pub bad_bits_at : {x : Pin} → Some x ≡ pin_of m s pins of b → None ≡ slice_of x here.bits → Unjoins m s (refusal.BadEnd place)
+    bad_bits_at {x} e f =
         unjoins (refusal.BadEnd place) cause.BadEnd refl (bad_bits x (pin_named (Some x) e) (ap (λ c. slice_of x c.bits) (sym is) ∙ sym f)) (low_pin x (pin_named (Some x) e))
 
-    module _ (pin x : Pin) (found : Some pin ≡ pin_of m s pins of b) (sliced : Some x ≡ slice_of pin here.bits) where
+    module _ {pin x : Pin} (found : Some pin ≡ pin_of m s pins of b) (sliced : Some x ≡ slice_of pin here.bits) where
       nr : near m s q i ≡ Some x
       nr = near_of m s q i (Some pin) (pin_named (Some pin) found) ∙ ap (λ c. slice_of pin c.bits) (sym is) ∙ sym sliced
 
@@ -198,7 +189,7 @@ module _ (m : Model) (s : List ℕ) (pins : List PinRecord) (parts : List PartRe
       bad_end_at f =
           unjoins (refusal.BadEnd place) cause.BadEnd refl (bad_end x nr (sym (f q g.pins_are g.connections_are nr))) (low_pin pin (pin_named (Some pin) found))
 
-      module _ (f : Far) (leads : Leads (Some f)) where
+      module _ {f : Far} (leads : Leads (Some f)) where
         fr : Some f ≡ far_end m s q i x
         fr = leads q g.pins_are g.connections_are nr
 
@@ -213,7 +204,7 @@ module _ (m : Model) (s : List ℕ) (pins : List PinRecord) (parts : List PartRe
         other_width_at ne = unjoins (refusal.WidthsDiffer place) cause.WidthsDiffer refl (other_width x f nr (sym fr) ne) low_ends
 
         -- the joint, as the code makes it
-        module _ (joint : Joint) (made : joint ≡ joint_of x f.target) where
+        module _ {joint : Joint} (made : joint ≡ joint_of x f.target) where
           -- the connection with its joint
           abbrev joined_here : ConnectionRecord
           joined_here = with_joint here joint
@@ -226,7 +217,7 @@ module _ (m : Model) (s : List ℕ) (pins : List PinRecord) (parts : List PartRe
           pub fed_from_at : (n : ℕ) → TextFrom s n here.part → IfSome (feed joined_here) (λ k. Feeders parts cs n i k.sink)
           fed_from_at n t =
               subst (λ (c : ConnectionRecord). IfSome (feed c) (λ k. Feeders parts cs n i k.sink)) (sym joined_is)
-              (feeders m s q (formed m s pins parts cs (here.part + 1) i g) (here.part + 1) i n parts cs g.parts_are g.connections_are (λ j a e. t q g.read j a (e ∙ text_is)) below)
+              (feeders m s q (formed g) (here.part + 1) i n parts cs g.parts_are g.connections_are (λ j a e. t q g.read j a (e ∙ text_is)) below)
 
           met_here : f.width ≡ x.width → Met m s q i
           met_here e = record { pin = x; is = nr; far = f; leads = sym fr; wide = e }

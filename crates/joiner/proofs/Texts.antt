@@ -49,7 +49,7 @@ module _ (s : List ℕ) (r : Records) (w : WellFormed s r) where
       new (p - 1) (omega arith) (omega (arith, same, e, entries_rise q (p - 1) (omega arith) (omega arith), entries_rise (p - 1) p (omega arith) l))
 
 -- the part p, which is the next
-module _ (m : Model) (s : List ℕ) (pins : List PinRecord) (parts : List PartRecord) (cs : List ConnectionRecord) (p : ℕ) (l : p < length parts) (g : LineStage m s pins parts cs p) where
+module _ {m : Model} {s : List ℕ} {pins : List PinRecord} {parts : List PartRecord} {cs : List ConnectionRecord} {p : ℕ} (l : p < length parts) (g : LineStage m s pins parts cs p) where
   abbrev st : Stage m s pins parts cs p g.joined
   st = g.stage
 
@@ -69,7 +69,7 @@ module _ (m : Model) (s : List ℕ) (pins : List PinRecord) (parts : List PartRe
   -- it begins a text
   text_new : BeginsText parts p → TextFrom s (get_or parts p blank_part).connections p
   text_new new = of_all (λ r. (j : ℕ) → j < (get_or parts p blank_part).connections → (connection r j).entry ≡ (part r p).entry → ⊥)
-      (λ j n. other_before s q (formed m s pins parts cs p g.joined st) p (omega (arith, st.parts_are.length_is))
+      (λ j n. other_before s q (formed st) p (omega (arith, st.parts_are.length_is))
       (λ z e f. new z e (before_is z e ∙ f ∙ ap (λ x. x.entry) (sym here_is))) j (omega (arith, ap (λ x. x.connections) here_is)))
 
   -- or it goes on with that of the part before
@@ -77,8 +77,8 @@ module _ (m : Model) (s : List ℕ) (pins : List PinRecord) (parts : List PartRe
   text_on n z e same before = of_all (λ r. (j : ℕ) → j < n → (connection r j).entry ≡ (part r p).entry → ⊥)
       (λ j b f. before q st.read j b (f ∙ ap (λ x. x.entry) (sym here_is) ∙ sym same ∙ before_is z e))
 
-  pub text_at : (n x : ℕ) → TextStart parts n p x → ((z : ℕ) → z + 1 ≡ p → TextFrom s n z) → TextFrom s x p
-  text_at n x t before = ⊎_elim
+  pub text_at : {n x : ℕ} → TextStart parts n p x → ((z : ℕ) → z + 1 ≡ p → TextFrom s n z) → TextFrom s x p
+  text_at {n} {x} t before = ⊎_elim
       (λ (a : 0 < p). ⊎_elim
       (λ (b : (get_or parts (p - 1) blank_part).entry ≡ (get_or parts p blank_part).entry).
       let e : p - 1 + 1 ≡ p = omega arith in

@@ -1,5 +1,5 @@
 -- From which connection on a sink can be fed.
-use Rattle.std.specs.Prelude.{ℕ, ◌<◌, ◌≤◌, List, length, get_or, slice_index_or}
+use Rattle.std.specs.Prelude.{ℕ, ◌<◌, ◌≤◌, List, length, slice_index_or}
 use Rattle.catalogue.specs.declared.records.PartRecord.{PartRecord}
 use Rattle.catalogue.specs.declared.records.ConnectionRecord.{ConnectionRecord}
 use Rattle.catalogue.specs.Records.{blank_part, blank_connection}
@@ -15,7 +15,7 @@ SinkBelow n (Internal h) = Unit {0}
 
 -- the part's first connection, the chip's, which is n, or the first mention of the internal pin
 abbrev pub first_feeder : List PartRecord → ℕ → Sink → ℕ
-first_feeder ps n (PartInputs p) = (get_or ps p blank_part).connections
+first_feeder ps n (PartInputs p) = (slice_index_or ps p blank_part).connections
 first_feeder ps n (ChipOutputs e) = n
 first_feeder ps n (Internal h) = h
 

@@ -12,9 +12,9 @@ use Rattle.catalogue.specs.declared.records.Joint.{Joint}
 use Rattle.catalogue.specs.declared.records.PartRecord.{PartRecord}
 use Rattle.catalogue.specs.declared.records.ConnectionRecord.{ConnectionRecord}
 use Rattle.catalogue.specs.Records.{Records, no_joint}
+use Rattle.catalogue.specs.Shapes.{joint_of}
 use Rattle.wellformed.specs.Places.{part, connection}
 use Rattle.joiner.specs.declared.ends.Far.{Far}
-use Rattle.joiner.specs.Sides.{record_side}
 use Rattle.joiner.specs.Meaning.{piece, near, far_end}
 
 abbrev pub with_piece : PartRecord → Piece → PartRecord
@@ -26,9 +26,6 @@ with_joint c j = record { entry = c.entry; name = c.name; part = c.part; bits = 
 abbrev pub target_of : Option Far → Target
 target_of None = target.Constant false
 target_of (Some f) = f.target
-
-abbrev pub joint_of : Pin → Target → Joint
-joint_of p t = record { side = record_side p.side; offset = p.first; width = p.width; target = t }
 
 -- these bits, and what stands at the far end of them
 abbrev pub joint_by : (Pin → Option Far) → Option Pin → Joint

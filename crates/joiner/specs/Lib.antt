@@ -1,6 +1,5 @@
 pub mod Search
 pub mod Slices
-pub mod Sides
 pub mod Meaning
 pub mod Feeding
 pub mod Feeders

@@ -1,5 +1,5 @@
 -- What the names of a bundle's texts mean, with a kit of built-in parts. The records are those that reading gave.
-use Rattle.std.specs.Prelude.{ℕ, Bool, false, ◌&&◌, List, length, Some, None, Option, ◌==◌, slice_index_or}
+use Rattle.std.specs.Prelude.{ℕ, Bool, false, ◌&&◌, List, find, Some, None, Option, ◌==◌, slice_index_or}
 use Rattle.std.specs.Option.{unwrap_or, option_or, option_map}
 use Rattle.std.specs.Str.{bytes_eq}
 use Rattle.kit.specs.Models.{Model}
@@ -18,16 +18,12 @@ use Rattle.catalogue.specs.declared.records.Target.TheVariants as target
 use Rattle.catalogue.specs.declared.records.PinRecord.{PinRecord}
 use Rattle.catalogue.specs.declared.records.ConnectionRecord.{ConnectionRecord}
 use Rattle.catalogue.specs.Cuts.{cut}
-use Rattle.catalogue.specs.Records.{Records, blank_pin, blank_connection}
+use Rattle.catalogue.specs.Shapes.{shape}
+use Rattle.catalogue.specs.Records.{Records, blank_connection}
 use Rattle.wellformed.specs.Places.{part, connection}
 use Rattle.joiner.specs.declared.ends.Far.{Far}
 use Rattle.joiner.specs.Search.{first_below, chained}
 use Rattle.joiner.specs.Slices.{slice_of}
-use Rattle.joiner.specs.Sides.{kit_side}
-
--- the pin that a record declares
-abbrev pub shape : PinRecord → Pin
-shape p = record { side = kit_side p.side; first = p.offset; width = p.width }
 
 module _ (s : List ℕ) where
   -- the name at a span of the text of the entry e
@@ -44,7 +40,7 @@ module _ (s : List ℕ) where
 
   -- the pin of a name that the text of the entry e declares
   abbrev pub declared : List PinRecord → ℕ → List ℕ → Option Pin
-  declared ps e n = option_map (λ i. shape (slice_index_or ps i blank_pin)) (first_below (λ i. declares e n (slice_index_or ps i blank_pin)) (length ps))
+  declared ps e n = option_map shape (find (declares e n) ps)
 
   -- the far end has this name
   abbrev pub far_named : ℕ → List ℕ → FarEnd → Bool
@@ -55,9 +51,13 @@ module _ (s : List ℕ) where
   abbrev pub mentions : ℕ → List ℕ → ConnectionRecord → Bool
   mentions e n c = c.entry == e && far_named e n c.far
 
+  -- the first connection of that text, before the connection i, which mentions the name
+  abbrev pub earlier_mention : List ConnectionRecord → ℕ → List ℕ → ℕ → Option ℕ
+  earlier_mention cs e n i = first_below (λ j. mentions e n (slice_index_or cs j blank_connection)) i
+
   -- the first connection of that text which mentions the name, where the connection i does
   abbrev pub first_mention : List ConnectionRecord → ℕ → List ℕ → ℕ → ℕ
-  first_mention cs e n i = unwrap_or (first_below (λ j. mentions e n (slice_index_or cs j blank_connection)) i) i
+  first_mention cs e n i = unwrap_or (earlier_mention cs e n i) i
 
 -- a constant goes to a part's input, at any width
 abbrev pub constant_far : Side → ℕ → Bool → Option Far

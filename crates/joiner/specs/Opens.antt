@@ -1,5 +1,5 @@
 -- What is left open among connections that are joined, as it is found record by record.
-use Rattle.std.specs.Prelude.{◌≡◌, ℕ, ◌+◌, ◌<◌, Bool, cond, ◌&&◌, ◌||◌, List, length, get_or, Some, None, Option, MatchOption, ◌==◌, nat_lt, slice_index_or}
+use Rattle.std.specs.Prelude.{◌≡◌, ℕ, ◌+◌, ◌<◌, Bool, cond, ◌&&◌, ◌||◌, List, length, Some, None, Option, MatchOption, ◌==◌, nat_lt, slice_index_or}
 use Rattle.std.specs.List.{between}
 use Rattle.fault.specs.declared.Place.{Place}
 use Rattle.kit.specs.Models.{Model}
@@ -38,7 +38,7 @@ pub record OpenAsOutput (cs : List ConnectionRecord) (p : PinRecord) : Type 0 wh
 
 -- so has an internal pin, at its first mention: none from there on feeds it
 pub record OpenAsInternal (cs : List ConnectionRecord) (i : ℕ) : Type 0 where
-  pub first : (get_or cs i blank_connection).joint.target ≡ target.Internal i
+  pub first : (slice_index_or cs i blank_connection).joint.target ≡ target.Internal i
   pub unfed : OpenIn (between i (length cs) cs) (record { sink = sink.Internal i; first = 0; width = 1 })
 
 -- and an input pin of the chip at the part p

@@ -11,12 +11,13 @@ use Rattle.catalogue.specs.declared.records.Piece.{Piece}
 use Rattle.catalogue.specs.declared.records.Piece.TheVariants.{Entry, Kind}
 use Rattle.catalogue.specs.declared.records.Target.TheVariants as target
 use Rattle.catalogue.specs.Records.{Records}
+use Rattle.catalogue.specs.Shapes.{shape}
 use Rattle.wellformed.specs.Places.{Sooner, pin, connection, pin_place, part_place, connection_place, far_place}
 use Rattle.joiner.specs.declared.ends.Far.{Far}
 use Rattle.joiner.specs.declared.feeds.Sink.{Sink}
 use Rattle.joiner.specs.declared.feeds.Sink.TheVariants as sink
 use Rattle.joiner.specs.Slices.{slice_of}
-use Rattle.joiner.specs.Meaning.{shape, piece, near_pin, near, far_end}
+use Rattle.joiner.specs.Meaning.{piece, near_pin, near, far_end}
 use Rattle.joiner.specs.Feeding.{Feeds}
 use Rattle.joiner.specs.Joined.{joint, joined_connection}
 

@@ -1,14 +1,10 @@
 -- What holds of what names are looked up in.
-use Rattle.std.specs.Prelude.{ℕ, ◌+◌, ◌<◌, ◌≤◌, List, length, get_or, IfSome, Option, ◌≢◌, slice_index_or}
+use Rattle.std.specs.Prelude.{ℕ, ◌+◌, ◌<◌, ◌≤◌, List, IfSome, Option, ◌≢◌, slice_index_or}
 use Rattle.kit.specs.declared.shape.Pin.{Pin}
-use Rattle.bundle.specs.Entries.{Opened}
-use Rattle.bundle.specs.declared.opened.Bundle.{Bundle}
 use Rattle.catalogue.specs.declared.records.Piece.{Piece}
 use Rattle.catalogue.specs.declared.records.Piece.TheVariants.{Entry, Kind}
-use Rattle.catalogue.specs.declared.records.PinRecord.{PinRecord}
 use Rattle.catalogue.specs.declared.records.ConnectionRecord.{ConnectionRecord}
-use Rattle.catalogue.specs.Records.{blank_pin, blank_connection}
-use Rattle.wellformed.specs.WellFormed.{PinFits}
+use Rattle.catalogue.specs.Records.{blank_connection}
 
 -- some bits, within the 64 of a side
 pub record Fit (p : Pin) : Type 0 where
@@ -24,11 +20,6 @@ abbrev pub EntryBelow : ℕ → Piece → Type 0
 EntryBelow n (Entry e) = e < n
 EntryBelow n (Kind k) = Unit {0}
 
--- the bundle is opened, and the pins fit
-pub record Open (b : Bundle) (ps : List PinRecord) : Type 0 where
-  pub opened : Opened b
-  pub fits : (i : ℕ) → i < length ps → PinFits (slice_index_or ps i blank_pin)
-
 -- none of the first n connections is of the text of the entry e
 abbrev pub OtherTexts : List ConnectionRecord → ℕ → ℕ → Type 0
-OtherTexts cs n e = (j : ℕ) → j < n → (get_or cs j blank_connection).entry ≢ e
+OtherTexts cs n e = (j : ℕ) → j < n → (slice_index_or cs j blank_connection).entry ≢ e

@@ -1,5 +1,5 @@
 -- What is known while records are being joined.
-use Rattle.std.specs.Prelude.{◌≡◌, ℕ, ◌+◌, ◌<◌, ◌≤◌, List, length, get_or, Some, Option, MatchOption, ◌≢◌, slice_index_or}
+use Rattle.std.specs.Prelude.{◌≡◌, ℕ, ◌+◌, ◌<◌, ◌≤◌, List, length, Some, Option, MatchOption, ◌≢◌, slice_index_or}
 use Rattle.fault.specs.declared.Cause.{Cause}
 use Rattle.fault.specs.declared.Place.{Place}
 use Rattle.bundle.specs.Layout.{count}
@@ -28,11 +28,11 @@ pub record Upto {X : Type 0} (f g : ℕ → X) (d : X) (long n : ℕ) (xs : List
 
 -- the part before p, if there is one, is of another text
 abbrev pub BeginsText : List PartRecord → ℕ → Type 0
-BeginsText ps p = (q : ℕ) → q + 1 ≡ p → (get_or ps q blank_part).entry ≢ (get_or ps p blank_part).entry
+BeginsText ps p = (q : ℕ) → q + 1 ≡ p → (slice_index_or ps q blank_part).entry ≢ (slice_index_or ps p blank_part).entry
 
 -- then its text starts at its own first connection, and else where that of the part before does, which is n
 pub record TextStart (ps : List PartRecord) (n p start : ℕ) : Type 0 where
-  pub new : BeginsText ps p → start ≡ (get_or ps p blank_part).connections
+  pub new : BeginsText ps p → start ≡ (slice_index_or ps p blank_part).connections
   pub on : (BeginsText ps p → ⊥) → start ≡ n
 
 -- of the records that reading gives, none of the first n connections is of the text of the part p

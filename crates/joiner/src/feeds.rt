@@ -1,6 +1,6 @@
 //! What connections feed: input bits of parts, output bits of chips, and internal pins.
 ghost use Rattle.std.specs.Prelude.{◌≡◌, ℕ, ◌+◌, ◌<◌, ◌≤◌, length, Decides};
-ghost use Rattle.joiner.specs.Feeding.{Meet, FedIn, OpenIn, feed};
+ghost use Rattle.joiner.specs.Feeding.{FeedsAmong, Meet, FedIn, OpenIn, feed};
 
 use catalogue::{ConnectionRecord, Joint, Side, Target};
 
@@ -19,6 +19,19 @@ pub(crate) struct Feed {
     pub sink: Sink,
     pub first: usize,
     pub width: usize,
+}
+
+impl Sink {
+    /// One bit of it.
+    pub(crate) fn bit(self, bit: usize) -> Feed
+        ensures { result ≡ record { sink = self; first = bit; width = 1 } }
+    {
+        Feed {
+            sink: self,
+            first: bit,
+            width: 1,
+        }
+    }
 }
 
 impl Feed {
@@ -65,18 +78,18 @@ pub(crate) fn feed_of(connection: &ConnectionRecord) -> Option<Feed>
     }
 }
 
+/// Whether a connection feeds some of the bits.
+fn feeds(connection: &ConnectionRecord, bits: Feed) -> bool
+    ensures { Decides result (FeedsAmong connection.now bits) }
+{
+    feed_of(connection).is_some_and(|feed| feed.meets(bits))
+}
+
 /// Whether one of the connections feeds some of the bits.
 pub(crate) fn is_fed(connections: &[ConnectionRecord], bits: Feed) -> bool
     ensures { Decides result (FedIn connections.now bits) }
 {
-    for connection in connections {
-        if let Some(feed) = feed_of(connection) {
-            if feed.meets(bits) {
-                return true;
-            }
-        }
-    }
-    false
+    connections.iter().any(|connection| feeds(connection, bits))
 }
 
 /// Whether none of the connections feeds one of the bits.
@@ -84,15 +97,5 @@ pub(crate) fn is_open(connections: &[ConnectionRecord], bits: Feed) -> bool
     requires { bits.first + bits.width ≤ 64 }
     ensures { Decides result (OpenIn connections.now bits) }
 {
-    for bit in bits.first..bits.first + bits.width {
-        let one = Feed {
-            sink: bits.sink,
-            first: bit,
-            width: 1,
-        };
-        if !is_fed(connections, one) {
-            return true;
-        }
-    }
-    false
+    (bits.first..bits.first + bits.width).any(|bit| !is_fed(connections, bits.sink.bit(bit)))
 }

@@ -3,14 +3,15 @@
 #![tactic(auto)]
 
 ghost use Rattle.std.specs.Prelude.{◌≡◌, MatchResult};
-ghost use Rattle.reader.specs.Verdicts.{made_of};
+ghost use Rattle.catalogue.specs.Records.{none};
+ghost use Rattle.catalogue.specs.Holding.{Fills, Lent, Long, counted, slices};
 ghost use Rattle.joiner.specs.Verdicts.{Accepted, Refused};
 ghost use Rattle.joiner.specs.Lent.{JoinedInto, ReadInto, Unjoined};
 
 use crate::records::join_records;
 use crate::scope::Scope;
 use bundle::Bundle;
-use catalogue::{ConnectionRecord, Counts, PartRecord, PinRecord, fill_blank};
+use catalogue::{Catalogue, ConnectionRecord, Counts, PartRecord, PinRecord, Table};
 use fault::Fault;
 use kit::Kit;
 use reader::read;
@@ -22,62 +23,72 @@ mod joints;
 mod opens;
 mod records;
 mod scope;
-mod sides;
 mod single;
+mod turn;
 
 pub use join_fault::JoinFault;
 pub use single::verdicts_are_one;
 
 /// Joins the records of a bundle that were read into lent memory, so many.
-fn join_read<'a, K: Kit>(
+fn join_rows<'a, K: Kit>(
     kit: &'a K,
     bytes: &'a [u8],
     counts: Counts,
-    pins: &'a [PinRecord],
+    pins: &'a Table<'_, PinRecord>,
     parts: &mut [PartRecord],
     connections: &mut [ConnectionRecord],
 ) -> Result<(), Fault>
-    requires { ReadInto bytes.now (made_of pins.now parts.old connections.old) counts }
+    requires pins { pins.now.used ≡ counts.pins }
+    requires read { ReadInto bytes.now (record { pins = pins.now.rows.now; parts = parts.old; connections = connections.old }) counts }
     ensures { MatchResult result
-        (λ _. JoinedInto (K.Kit.model kit.now) bytes.now (made_of pins.now parts.new connections.new) counts)
+        (λ _. JoinedInto (K.Kit.model kit.now) bytes.now (record { pins = pins.now.rows.now; parts = parts.new; connections = connections.new }) counts)
         (λ f. Unjoined (K.Kit.model kit.now) bytes.now f) }
 {
-    let Counts {
-        pins: pin_count,
-        parts: part_count,
-        connections: connection_count,
-    } = counts;
     let scope = Scope {
         kit,
         bundle: Bundle::open(bytes)?,
-        pins: &pins[0..pin_count],
+        pins: pins.as_slice(),
     };
-    let parts = &mut parts[0..part_count];
-    let connections = &mut connections[0..connection_count];
+    let parts = &mut parts[..counts.parts];
+    let connections = &mut connections[..counts.connections];
     join_records(&scope, parts, connections)?;
     Ok(())
 }
 
-/// Reads and joins all texts of a bundle, with a kit, into lent memory. A refusal leaves that
-/// memory blank.
-pub fn join<K: Kit>(
-    kit: &K,
-    bytes: &[u8],
-    pins: &mut [PinRecord],
-    parts: &mut [PartRecord],
-    connections: &mut [ConnectionRecord],
-) -> Result<Counts, Fault>
-    ensures { MatchResult result
-        (λ n. Accepted (K.Kit.model kit.now) bytes.now (made_of pins.old parts.old connections.old) (made_of pins.new parts.new connections.new) n)
-        (λ f. Refused (K.Kit.model kit.now) bytes.now (made_of pins.old parts.old connections.old) (made_of pins.new parts.new connections.new) f) }
+/// Joins the records of a bundle that were read into a catalogue.
+fn join_read<K: Kit>(kit: &K, bytes: &[u8], catalogue: &mut Catalogue<'_>) -> Result<(), Fault>
+    requires { ReadInto bytes.now (slices catalogue.old) (counted catalogue.old) }
+    ensures lent { Lent catalogue.old catalogue.new }
+    ensures long { Long catalogue.old catalogue.new }
+    ensures counted { counted catalogue.new ≡ counted catalogue.old }
+    ensures joins { MatchResult result
+        (λ _. JoinedInto (K.Kit.model kit.now) bytes.now (slices catalogue.new) (counted catalogue.new))
+        (λ f. Unjoined (K.Kit.model kit.now) bytes.now f) }
 {
-    let counts = read(bytes, pins, parts, connections)?;
-    match join_read(kit, bytes, counts, pins, parts, connections) {
+    let counts = catalogue.counts();
+    let Catalogue {
+        pins,
+        parts,
+        connections,
+    } = catalogue;
+    join_rows(kit, bytes, counts, pins, parts.rows, connections.rows)
+}
+
+/// Reads and joins all texts of a bundle, with a kit, into a catalogue, in place of what it has. A
+/// refusal leaves it blank.
+pub fn join<K: Kit>(kit: &K, bytes: &[u8], catalogue: &mut Catalogue<'_>) -> Result<Counts, Fault>
+    ensures lent { Lent catalogue.old catalogue.new }
+    ensures long { Long catalogue.old catalogue.new }
+    ensures verdict { MatchResult result
+        (λ n. Accepted (K.Kit.model kit.now) bytes.now (slices catalogue.old) (slices catalogue.new) n)
+        (λ f. Refused (K.Kit.model kit.now) bytes.now (slices catalogue.old) (slices catalogue.new) f) }
+    ensures counted { MatchResult result (λ n. n ≡ counted catalogue.new) (λ _. Fills catalogue.new none) }
+{
+    let counts = read(bytes, catalogue)?;
+    match join_read(kit, bytes, catalogue) {
         Ok(()) => Ok(counts),
         Err(fault) => {
-            fill_blank(pins, PinRecord::BLANK);
-            fill_blank(parts, PartRecord::BLANK);
-            fill_blank(connections, ConnectionRecord::BLANK);
+            catalogue.clear();
             Err(fault)
         }
     }

@@ -1,6 +1,5 @@
 //! All records of a bundle are joined, or what is wrong first is told.
-ghost use Rattle.std.specs.Prelude.{◌≡◌, ℕ, length, MatchResult};
-ghost use Rattle.bundle.specs.Entries.{Opened};
+ghost use Rattle.std.specs.Prelude.{length, MatchResult};
 ghost use Rattle.joiner.specs.Stages.{Complete, LineStage, Soonest, Unjoins};
 
 use crate::join_fault::JoinFault;
@@ -21,9 +20,9 @@ fn open_place<K: Kit>(
     ensures { Soonest (K.Kit.model scope.now.kit.now) scope.now.bundle.bytes.now scope.now.pins.now parts.now connections.now result }
 {
     sooner(
-        open_output(connections, scope.pins),
+        open_output(scope, connections),
         sooner(
-            open_part(scope, connections, parts),
+            open_part(scope, parts, connections),
             open_internal(connections),
         ),
     )
@@ -35,8 +34,7 @@ pub(crate) fn join_records<K: Kit>(
     parts: &mut [PartRecord],
     connections: &mut [ConnectionRecord],
 ) -> Result<(), JoinFault>
-    requires opened { Opened scope.now.bundle }
-    requires stage { LineStage (K.Kit.model scope.now.kit.now) scope.now.bundle.bytes.now scope.now.pins.now parts.old connections.old 0 }
+    requires { LineStage (K.Kit.model scope.now.kit.now) scope.now.bundle.bytes.now scope.now.pins.now parts.old connections.old 0 }
     ensures { MatchResult result
         (λ _. Complete (K.Kit.model scope.now.kit.now) scope.now.bundle.bytes.now scope.now.pins.now parts.new connections.new)
         (λ f. Unjoins (K.Kit.model scope.now.kit.now) scope.now.bundle.bytes.now f) }

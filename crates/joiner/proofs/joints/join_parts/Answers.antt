@@ -7,12 +7,7 @@ use Rattle.joiner.proofs.joints.join_parts.Goals as goal
 pub join_part-requires : goal.join_part-requires
 join_part-requires g c =
     let l : c.loop-p.p < length c.loop-p.parts = omega (arith, c.loop-p-test.true, c.loop-p.auto.parts) in
-    record {
-      opened = c.requires.opened;
-      within = l;
-      stage = c.loop-p.invariant.0;
-      others = text_at _ _ _ _ _ c.loop-p.p l c.loop-p.invariant.0 _ _ c.text_start-from.ensures c.loop-p.invariant.1;
-    }
+    record { within = l; stage = c.loop-p.invariant.0; others = text_at l c.loop-p.invariant.0 c.text_start-from.ensures c.loop-p.invariant.1 }
 
 pub returns-in_err-join_part : goal.returns-in_err-join_part
 returns-in_err-join_part g c =
@@ -26,5 +21,5 @@ loop-p-preserved g c =
       λ z e.
           let is : z ≡ c.loop-p.p = omega arith in
           subst (λ (k : ℕ). TextFrom c.args.scope.now.bundle.bytes.now c.text_start-from.result k) (sym is)
-          (text_at _ _ _ _ _ c.loop-p.p l c.loop-p.invariant.0 _ _ c.text_start-from.ensures c.loop-p.invariant.1),
+          (text_at l c.loop-p.invariant.0 c.text_start-from.ensures c.loop-p.invariant.1),
     )

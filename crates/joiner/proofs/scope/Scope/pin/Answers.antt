@@ -1,18 +1,12 @@
-use Rattle.joiner.proofs.Fitting.{declared_fits, kit_fits}
+use Rattle.joiner.proofs.Fitting.{first_fits, kit_fits}
 use Rattle.joiner.proofs.scope.Scope.pin.Goals as goal
 
-pub returns-in-Entry : goal.returns-in-Entry
-returns-in-Entry g c =
+pub returns-in-Entry-clause-fits : goal.returns-in-Entry-clause-fits
+returns-in-Entry-clause-fits g c =
     let t = c.args.self.now in
-    record {
-      is = rw c.in-Entry.is c.declared.ensures;
-      fits = rw c.declared.ensures (declared_fits t.bundle.bytes.now t.pins.now c.in-Entry.chip c.args.name.now c.requires.«open».fits);
-    }
+    rw c.declared.ensures (first_fits _ t.pins.now t.fits)
 
-pub returns-in-Kind : goal.returns-in-Kind
-returns-in-Kind g c =
+pub returns-in-Kind-clause-fits : goal.returns-in-Kind-clause-fits
+returns-in-Kind-clause-fits g c =
     let t = c.args.self.now in
-    record {
-      is = rw c.in-Kind.is c.pin.ensures;
-      fits = rw c.pin.ensures (kit_fits (g.K.Kit.model t.kit.now) (g.K.Kit.sound t.kit.now) c.in-Kind.kind c.args.name.now);
-    }
+    rw c.pin.ensures (kit_fits (g.K.Kit.model t.kit.now) (g.K.Kit.sound t.kit.now) c.in-Kind.kind c.args.name.now)
