@@ -2,6 +2,7 @@
 use bundle::{Breach, Bundle};
 use fault::Cause;
 use std::alloc::{AllocError, Global};
+use std::iter;
 use std::process::Abort;
 use std::test::*;
 
@@ -16,9 +17,7 @@ struct Row {
 /// Appends a row.
 fn put_row(out: &mut Vec<u8>, row: &Row) -> Result<(), AllocError> {
     out.extend_from_slice(row.name)?;
-    for _ in row.name.len()..32 {
-        out.push(0)?;
-    }
+    out.extend(iter::repeat_n(0, 32_usize.saturating_sub(row.name.len())))?;
     out.extend_from_slice(&row.start.to_le_bytes())?;
     out.extend_from_slice(&row.len.to_le_bytes())
 }
@@ -234,9 +233,7 @@ fn bundle_of_size(heap: Global, len: u16) -> Result<Vec<u8>, AllocError> {
         }],
         b"",
     )?;
-    for _ in 0..len {
-        out.push(b' ')?;
-    }
+    out.extend(iter::repeat_n(b' ', usize::from(len)))?;
     Ok(out)
 }
 

@@ -1,6 +1,6 @@
 //! Faults as a person sees them: what, where, the line, and a caret under the column.
 use packer::{Source, pack};
-use report::outline;
+use report::{Refusal, outline};
 use std::process::Abort;
 use std::test::*;
 
@@ -11,9 +11,10 @@ fn said(rt: &(impl Abort + AllocGlobal), text: &[u8], words: &[u8]) -> Result<()
     let Ok(bytes) = pack(heap, &[source]) else {
         return Err(Fail::new("the text was not packed"));
     };
-    let report = outline(heap, bytes.as_slice())?;
-    assert!(rt; !report.accepted);
-    assert!(rt; report.text.as_slice() == words);
+    let Err(Refusal::Told(told)) = outline(heap, bytes.as_slice()) else {
+        return Err(Fail::new("the text was read"));
+    };
+    assert!(rt; told.as_slice() == words);
     Ok(())
 }
 

@@ -1,13 +1,14 @@
 //! Texts that are joined, and what the records then hold; faults of joining as a person sees them.
 use catalogue::{
-    CONNECTIONS, ConnectionRecord, Counts, Joint, PARTS, PINS, PartRecord, Piece, PinRecord, Side,
-    Target,
+    CONNECTIONS, Catalogue, ConnectionRecord, Counts, Joint, PARTS, PINS, PartRecord, Piece,
+    PinRecord, Record, Side, Target,
 };
 use fault::Fault;
-use inspect::check as check_report;
+use inspect::check;
 use joiner::join;
 use kit::{Atoms, Kit, Pair, Rom};
 use packer::{Source, pack};
+use report::Refusal;
 use samplekit::Sample;
 use std::process::Abort;
 use std::test::*;
@@ -22,10 +23,7 @@ struct Records {
 
 /// The bundle of texts that are named.
 fn bundle_of(rt: &impl AllocGlobal, sources: &[Source<'_>]) -> Result<Vec<u8>, Fail> {
-    match pack(rt.alloc(), sources) {
-        Ok(bytes) => Ok(bytes),
-        Err(_) => Err(Fail::new("the texts were not packed")),
-    }
+    pack(rt.alloc(), sources).map_err(|_| Fail::new("the texts were not packed"))
 }
 
 /// What joining makes of a bundle's records.
@@ -35,13 +33,12 @@ fn joined<K: Kit>(rt: &impl AllocGlobal, kit: &K, sources: &[Source<'_>]) -> Res
     let mut pins = vec![in heap; PinRecord::BLANK; PINS]?;
     let mut parts = vec![in heap; PartRecord::BLANK; PARTS]?;
     let mut connections = vec![in heap; ConnectionRecord::BLANK; CONNECTIONS]?;
-    let verdict = join(
-        kit,
-        bytes.as_slice(),
+    let mut catalogue = Catalogue::new(
         pins.as_mut_slice(),
         parts.as_mut_slice(),
         connections.as_mut_slice(),
     );
+    let verdict = join(kit, bytes.as_slice(), &mut catalogue);
     Ok(Records {
         parts,
         connections,
@@ -116,10 +113,10 @@ fn resolved(
     let line = records.parts[part];
     assert_eq!(rt; line.piece, piece);
     assert_eq!(rt; line.count, joints.len());
-    for (i, joint) in joints.iter().enumerate() {
-        let number = line.connections.saturating_add(i);
-        assert!(rt; number < records.connections.len());
-        assert_eq!(rt; records.connections[number].joint, *joint);
+    let own = records.connections.iter().skip(line.connections);
+    assert!(rt; own.len() >= joints.len());
+    for (connection, joint) in own.zip(joints) {
+        assert_eq!(rt; connection.joint, *joint);
     }
     Ok(())
 }
@@ -220,10 +217,10 @@ fn refused_is_blank(rt: HostRuntime) -> Result<(), Fail> {
     let text = b"CHIP A { IN a; OUT o; PARTS: Nand(a=a, b=a, out=o, out=o); }";
     let records = joined(&rt, &Atoms, &[Source { name: b"A", text }])?;
     assert!(rt; records.verdict.is_err());
-    for i in 0..4 {
-        assert!(rt; i < records.connections.len() && i < records.parts.len());
-        assert_eq!(rt; records.parts[i].name.len, 0);
-        assert_eq!(rt; records.connections[i].name.len, 0);
+    assert!(rt; records.parts.len() >= 4 && records.connections.len() >= 4);
+    for (part, connection) in records.parts.iter().zip(&records.connections).take(4) {
+        assert_eq!(rt; part.name.len, 0);
+        assert_eq!(rt; connection.name.len, 0);
     }
     Ok(())
 }
@@ -232,10 +229,11 @@ fn refused_is_blank(rt: HostRuntime) -> Result<(), Fail> {
 fn said_with_the_line(rt: HostRuntime) -> Result<(), Fail> {
     let text = b"CHIP A {\n  IN a[2];\n  OUT o;\n  PARTS:\n  Nand(a=a, b=a[0], out=o);\n}\n";
     let bytes = bundle_of(&rt, &[Source { name: b"A", text }])?;
-    let report = check_report(rt.alloc(), &Atoms, bytes.as_slice())?;
-    assert!(rt; !report.accepted);
+    let Err(Refusal::Told(told)) = check(rt.alloc(), &Atoms, bytes.as_slice()) else {
+        return Err(Fail::new("the text was joined"));
+    };
     assert!(rt;
-        report.text.as_slice()
+        told.as_slice()
             == b"fault 11 (joining) in A at byte 45, line 5, column 8: the two ends differ in width: join as many bits on both sides\n  Nand(a=a, b=a[0], out=o);\n       ^\n".as_slice()
     );
     Ok(())
@@ -247,11 +245,11 @@ fn said_when_joined(rt: HostRuntime) -> Result<(), Fail> {
     let bytes = bundle_of(&rt, &[Source { name: b"R", text }])?;
     let words = [1, 2, 3];
     let kit = Pair::new(Atoms, Rom::new(&words));
-    let report = check_report(rt.alloc(), &kit, bytes.as_slice())?;
-    assert!(rt; report.accepted);
+    let Ok(text) = check(rt.alloc(), &kit, bytes.as_slice()) else {
+        return Err(Fail::new("the text was not joined"));
+    };
     assert!(rt;
-        report.text.as_slice()
-            == b"1 chips, 2 pins, 1 parts, 2 connections: all joined\n".as_slice()
+        text.as_slice() == b"1 chips, 2 pins, 1 parts, 2 connections: all joined\n".as_slice()
     );
     Ok(())
 }
@@ -270,9 +268,9 @@ fn mixed_is_joined<K: Kit>(
 ) -> Result<(), Fail> {
     let records = joined(rt, kit, &[MIXED])?;
     assert!(rt; records.verdict.is_ok());
-    for (part, kind) in kinds.iter().enumerate() {
-        assert!(rt; part < records.parts.len());
-        assert_eq!(rt; records.parts[part].piece, Piece::Kind(*kind));
+    assert!(rt; records.parts.len() >= kinds.len());
+    for (part, kind) in records.parts.iter().zip(&kinds) {
+        assert_eq!(rt; part.piece, Piece::Kind(*kind));
     }
     Ok(())
 }

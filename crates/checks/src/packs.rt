@@ -1,7 +1,7 @@
 //! What is packed comes back, and what is refused is told.
 use bundle::Bundle;
 use packer::{PackFault, Source, pack};
-use report::list;
+use report::{Refusal, list};
 use std::alloc::Global;
 use std::process::Abort;
 use std::test::*;
@@ -105,20 +105,22 @@ fn full_bundle(rt: HostRuntime) -> Result<(), Fail> {
     };
     assert!(rt; bytes.len() == 2 + 36 * 128 + 52 + 2 * 51);
     assert!(rt; Bundle::open(bytes.as_slice()).is_ok());
-    assert!(rt; list(heap, bytes.as_slice())?.accepted);
+    assert!(rt; list(heap, bytes.as_slice()).is_ok());
     Ok(())
 }
 
 #[test]
 fn reports(rt: HostRuntime) -> Result<(), Fail> {
     let heap = rt.alloc();
-    let empty = list(heap, &[0, 0])?;
-    assert!(rt; empty.accepted);
-    assert!(rt; empty.text.as_slice() == b"0 texts, 2 bytes\n".as_slice());
-    let broken = list(heap, &[1, 0])?;
-    assert!(rt; !broken.accepted);
+    let Ok(empty) = list(heap, &[0, 0]) else {
+        return Err(Fail::new("an empty bundle was refused"));
+    };
+    assert!(rt; empty.as_slice() == b"0 texts, 2 bytes\n".as_slice());
+    let Err(Refusal::Told(broken)) = list(heap, &[1, 0]) else {
+        return Err(Fail::new("bytes that break the layout were listed"));
+    };
     let words: &[u8] =
         b"fault 2 (bundle): the layout is broken\nthe bundle ends inside its table of contents\n";
-    assert!(rt; broken.text.as_slice() == words);
+    assert!(rt; broken.as_slice() == words);
     Ok(())
 }

@@ -1,12 +1,12 @@
 //! The commands of the program: what they read, write and print.
-ghost use Rattle.std.specs.Prelude.{◌≤◌, length};
+ghost use Rattle.std.specs.Prelude.{◌≡◌, ◌≢◌, ◌⊎◌, ℕ, suc, ◌<◌, ◌≤◌, length, slice_index};
 
 use crate::rom::{MAX_BYTES, words_of};
 use crate::wording::{USAGE, pack_refusal};
 use inspect::check;
 use kit::{Atoms, Pair, Rom};
 use packer::{PackFault, Source, pack};
-use report::{Report, list, outline};
+use report::{Refusal, list, outline};
 use std::alloc::{AllocError, AllocFailed, Global};
 use std::io::Write;
 use std::{env, fs, io};
@@ -39,13 +39,18 @@ impl From<io::Error> for Stop {
     }
 }
 
-/// Prints a report; one that is a refusal ends the program with status 1.
-fn answer(rt: &HostRuntime, report: Report) -> Result<(), Stop> {
-    rt.stdout().write_all(report.text.as_slice())?;
-    if report.accepted {
-        Ok(())
-    } else {
-        Err(Stop::Refused)
+/// Prints what a command answers; a refusal ends the program with status 1.
+fn answer(rt: &HostRuntime, answer: Result<Vec<u8>, Refusal>) -> Result<(), Stop> {
+    match answer {
+        Ok(text) => {
+            rt.stdout().write_all(text.as_slice())?;
+            Ok(())
+        }
+        Err(Refusal::Told(text)) => {
+            rt.stdout().write_all(text.as_slice())?;
+            Err(Stop::Refused)
+        }
+        Err(Refusal::NoMemory) => Err(Stop::Broken),
     }
 }
 
@@ -77,24 +82,17 @@ fn read_files(rt: &HostRuntime, paths: &[String]) -> Result<Vec<Vec<u8>>, Stop> 
 
 /// The place behind the last `/`, or 0.
 fn file_start(path: &[u8]) -> usize
-    ensures { result ≤ length path.now }
+    ensures within { result ≤ length path.now }
+    ensures begins { (result ≡ 0) ⊎ ((k : ℕ) × (suc k ≡ result) × (slice_index path.now k ≡ 47)) }
+    ensures behind { (k : ℕ) → result ≤ k → k < length path.now → slice_index path.now k ≢ 47 }
 {
-    let mut start = 0;
-    for (i, b) in path.iter().enumerate() {
-        if *b == b'/' {
-            start = i + 1;
-        }
-    }
-    start
+    path.iter().rposition(|b| *b == b'/').map_or(0, |i| i + 1)
 }
 
 /// The name of the text in a file: the file's name without folder and `.hdl`.
 fn text_name(path: &[u8]) -> &[u8] {
     let file = &path[file_start(path)..];
-    match file.strip_suffix(b".hdl") {
-        Some(name) => name,
-        None => file,
-    }
+    file.strip_suffix(b".hdl").unwrap_or(file)
 }
 
 /// Each text with the name of its file.
@@ -103,13 +101,14 @@ fn sources_of<'a>(
     paths: &'a [String],
     texts: &'a [Vec<u8>],
 ) -> Result<Vec<Source<'a>>, AllocError> {
-    let mut sources = Vec::new(heap);
-    for (path, text) in paths.iter().zip(texts) {
-        let name = text_name(path.as_bytes());
-        let text = text.as_slice();
-        sources.push(Source { name, text })?;
-    }
-    Ok(sources)
+    paths
+        .iter()
+        .zip(texts)
+        .map(|(path, text)| Source {
+            name: text_name(path.as_bytes()),
+            text: text.as_slice(),
+        })
+        .collect(heap)
 }
 
 /// The bundle of the texts, under the names of their files.
@@ -163,16 +162,28 @@ fn read_rom(rt: &HostRuntime, path: &str) -> Result<Vec<u16>, Stop> {
     Ok(words_of(rt.alloc(), bytes.as_slice())?)
 }
 
+/// Shows what is answered of the bytes of a bundle.
+fn show<F: Fn(Global, &[u8]) -> Result<Vec<u8>, Refusal>>(
+    rt: &HostRuntime,
+    bundle: &str,
+    ask: F,
+) -> Result<(), Stop>
+    requires { F.IsAlwaysCallable ask }
+{
+    let bytes = read_file(rt, bundle)?;
+    answer(rt, ask(rt.alloc(), bytes.as_slice()))
+}
+
 /// Checks a bundle with the atoms, and a ROM if there is a file for it.
 fn check_bundle(rt: &HostRuntime, bundle: &str, rom: Option<&str>) -> Result<(), Stop> {
     let heap = rt.alloc();
     let bytes = read_file(rt, bundle)?;
     match rom {
-        None => answer(rt, check(heap, &Atoms, bytes.as_slice())?),
+        None => answer(rt, check(heap, &Atoms, bytes.as_slice())),
         Some(path) => {
             let words = read_rom(rt, path)?;
             let kit = Pair::new(Atoms, Rom::new(words.as_slice()));
-            answer(rt, check(heap, &kit, bytes.as_slice())?)
+            answer(rt, check(heap, &kit, bytes.as_slice()))
         }
     }
 }
@@ -183,37 +194,22 @@ fn dispatch(rt: &HostRuntime, words: &[String]) -> Result<(), Stop> {
         print!(rt; "{USAGE}")?;
         return Ok(());
     };
-    match command.as_str() {
-        "help" | "--help" | "-h" => {
+    match (command.as_str(), rest) {
+        ("help" | "--help" | "-h", _) => {
             print!(rt; "{USAGE}")?;
             Ok(())
         }
-        "pack" => match rest {
-            [out, first, ..] => pack_files(rt, out.as_str(), &rest[1..]),
-            _ => misused(rt, "pack", "OUT FILE.hdl ..."),
-        },
-        "list" => match rest {
-            [bundle] => {
-                let bytes = read_file(rt, bundle.as_str())?;
-                answer(rt, list(rt.alloc(), bytes.as_slice())?)
-            }
-            _ => misused(rt, "list", "BUNDLE"),
-        },
-        "outline" => match rest {
-            [bundle] => {
-                let bytes = read_file(rt, bundle.as_str())?;
-                answer(rt, outline(rt.alloc(), bytes.as_slice())?)
-            }
-            _ => misused(rt, "outline", "BUNDLE"),
-        },
-        "check" => match rest {
-            [bundle] => check_bundle(rt, bundle.as_str(), None),
-            [flag, rom, bundle] if flag.as_str() == "--rom" => {
-                check_bundle(rt, bundle.as_str(), Some(rom.as_str()))
-            }
-            _ => misused(rt, "check", "[--rom FILE] BUNDLE"),
-        },
-        other => {
+        ("pack", [out, first, ..]) => pack_files(rt, out.as_str(), &rest[1..]),
+        ("pack", _) => misused(rt, "pack", "OUT FILE.hdl ..."),
+        ("list", [bundle]) => show(rt, bundle.as_str(), list),
+        ("outline", [bundle]) => show(rt, bundle.as_str(), outline),
+        ("list" | "outline", _) => misused(rt, command.as_str(), "BUNDLE"),
+        ("check", [bundle]) => check_bundle(rt, bundle.as_str(), None),
+        ("check", [flag, rom, bundle]) if flag.as_str() == "--rom" => {
+            check_bundle(rt, bundle.as_str(), Some(rom.as_str()))
+        }
+        ("check", _) => misused(rt, "check", "[--rom FILE] BUNDLE"),
+        (other, _) => {
             eprintln!(rt; "tethersecond: there is no command {other}: see tethersecond --help")?;
             Err(Stop::Refused)
         }
@@ -222,9 +218,6 @@ fn dispatch(rt: &HostRuntime, words: &[String]) -> Result<(), Stop> {
 
 /// Does what the program was called to do.
 pub fn run(rt: &HostRuntime) -> Result<(), Stop> {
-    let mut words = Vec::new(rt.alloc());
-    for word in env::args(rt)?.skip(1) {
-        words.push(word)?;
-    }
+    let words = env::args(rt)?.skip(1).collect::<Vec<String>>(rt.alloc())?;
     dispatch(rt, words.as_slice())
 }

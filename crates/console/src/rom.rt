@@ -10,11 +10,8 @@ pub(crate) const MAX_BYTES: usize = 65_536;
 pub(crate) fn words_of(heap: Global, bytes: &[u8]) -> Result<Vec<u16>, AllocError>
     ensures { IfOk result (λ v. (vec_len v ≡ length bytes.now / 2) × ((k : ℕ) → k < vec_len v → slice_index v.items k ≡ slice_index bytes.now (2 * k) + 256 * slice_index bytes.now (2 * k + 1))) }
 {
-    let mut words = Vec::new(heap);
-    for k in 0..bytes.len() / 2 {
-        let low = u16::from(bytes[2 * k]);
-        let high = u16::from(bytes[2 * k + 1]);
-        words.push(low + 256 * high)?;
-    }
-    Ok(words)
+    bytes
+        .chunks_exact(2)
+        .map(|word| u16::from_le_bytes([word[0], word[1]]))
+        .collect(heap)
 }

@@ -33,35 +33,15 @@ pub(crate) fn pack_refusal(
     fault: PackFault,
     paths: &[String],
 ) -> Result<String, AllocError> {
-    let count = paths.len();
     match fault {
         PackFault::TooManyEntries => {
-            format!(in heap; "{count} texts are too many: a bundle holds at most 128")
+            let count = paths.len();
+            format!(in heap; "{count} {fault}")
         }
-        PackFault::BadName(i) => {
-            let path = path_at(paths, i);
-            format!(in heap;
-                "{path}: this is no name for a chip: name the file with a letter, then letters or digits, at most 32, and no reserved word, and .hdl"
-            )
+        PackFault::BadName(i) | PackFault::DuplicateName(i) | PackFault::TooLong(i) => {
+            let path = paths.get(i).map_or("", |path| path.as_str());
+            format!(in heap; "{path}: {fault}")
         }
-        PackFault::DuplicateName(i) => {
-            let path = path_at(paths, i);
-            format!(in heap; "{path}: a text of this name is given already: leave one of them out")
-        }
-        PackFault::TooLong(i) => {
-            let path = path_at(paths, i);
-            format!(in heap;
-                "{path}: with this text the bundle passes 65535 bytes: leave texts out"
-            )
-        }
-        PackFault::NoMemory => String::from_str(heap, "there is not enough memory to pack"),
-    }
-}
-
-/// The path of the file `i`, if there is one.
-fn path_at(paths: &[String], i: usize) -> &str {
-    match paths.get(i) {
-        Some(path) => path.as_str(),
-        None => "",
+        PackFault::NoMemory => fault.to_string(heap),
     }
 }

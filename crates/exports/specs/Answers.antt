@@ -5,7 +5,8 @@ use Rattle.fault.specs.Faults.{number_of}
 use Rattle.bundle.specs.Layout.{Layout, count}
 use Rattle.kit.specs.Models.{Model}
 use Rattle.catalogue.specs.Records.{Records}
-use Rattle.reader.specs.Verdicts.{ReadUpto, Refusal, room}
+use Rattle.catalogue.specs.Holding.{room}
+use Rattle.reader.specs.Verdicts.{ReadUpto, Refusal}
 use Rattle.joiner.specs.Rules.{Joins}
 use Rattle.joiner.specs.Verdicts as joiner
 

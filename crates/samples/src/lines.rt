@@ -1,10 +1,9 @@
 //! A line of input, and a line of output.
 ghost use Rattle.std.specs.Prelude.{ℕ, List, map, vec_items, IfOk};
-ghost use Rattle.std.specs.List.{All};
 ghost use Rattle.packer.specs.Packed.{Packed};
 ghost use Rattle.packer.specs.declared.source.Source.{Source as Packing};
 ghost use Rattle.samples.specs.Sources.{Lettered};
-ghost use Rattle.samples.specs.Words.{Writes};
+ghost use Rattle.samples.specs.Words.{Lists};
 
 use crate::sources::sources_of;
 use crate::stop::Stop;
@@ -16,7 +15,7 @@ use std::io;
 
 /// The texts that a line writes.
 fn texts_of(heap: Global, line: &str) -> Result<Vec<Vec<u8>>, Stop>
-    ensures { IfOk result (λ v. All (λ t. (word : List ℕ) × Writes word t) (map vec_items v.items)) }
+    ensures { IfOk result (λ v. Lists line.now (map vec_items v.items)) }
 {
     let mut texts = Vec::new(heap);
     for word in line.split_whitespace() {
@@ -27,7 +26,7 @@ fn texts_of(heap: Global, line: &str) -> Result<Vec<Vec<u8>>, Stop>
 
 /// The bundle of the texts that a line writes.
 pub fn bundle_of(heap: Global, line: &str) -> Result<Vec<u8>, Stop>
-    ensures { IfOk result (λ v. (texts : List (List ℕ)) × (sources : List Packing) × All (λ t. (word : List ℕ) × Writes word t) texts × Lettered texts sources × Packed sources v.items) }
+    ensures { IfOk result (λ v. (texts : List (List ℕ)) × (sources : List Packing) × Lists line.now texts × Lettered texts sources × Packed sources v.items) }
 {
     let texts = texts_of(heap, line)?;
     let sources = sources_of(heap, texts.as_slice())?;
