@@ -49,10 +49,10 @@ impl<'a, K: Kit> Scope<'a, K> {
     pub(crate) fn piece(&self, name: &[u8]) -> Option<Piece>
         ensures { result ≡ piece_of (K.Kit.model self.now.kit.now) self.now.bundle.bytes.now name.now }
     {
-        if let Some(entry) = self.bundle.find(name) {
-            return Some(Piece::Entry(entry));
-        }
-        Some(Piece::Kind(self.kit.find(name)?))
+        self.bundle
+            .find(name)
+            .map(Piece::Entry)
+            .or_else(|| self.kit.find(name).map(Piece::Kind))
     }
 
     /// The pin of the name that an entry's text declares.
