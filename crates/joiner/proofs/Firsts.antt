@@ -1,6 +1,7 @@
 -- What is wrong first.
 use Rattle.std.proofs.Common.{◌≡◌, ℕ, ◌+◌, ◌<◌, ◌≤◌, List, length, Some, None, Option, sym, refl, ap, ◌∙◌, subst, ⊎_elim, arith}
 use Rattle.std.proofs.lemmas.Bool.{cases_lt, cases_order}
+use Rattle.std.proofs.lemmas.Option.{none-some}
 use Rattle.fault.specs.declared.Cause.{Cause}
 use Rattle.fault.specs.declared.Cause.TheVariants as cause
 use Rattle.fault.specs.declared.Place.{Place}
@@ -19,7 +20,7 @@ use Rattle.joiner.proofs.Order.{never_sooner, one_way, connections_sooner, part_
 
 -- an answer is not both there and none
 pub not_both : {X : Type 0} (o : Option X) (x : X) → o ≡ None → o ≡ Some x → ⊥
-not_both o x e f = let z : ◌≡◌ {A = ℕ} 0 1 = cc in omega arith
+not_both o x e f = none-some x (sym e ∙ f)
 
 -- nor two answers
 pub one_answer : {X : Type 0} (o : Option X) (x y : X) → o ≡ Some x → o ≡ Some y → x ≡ y

@@ -1,8 +1,9 @@
 -- Pins that names mean fit their sides.
-use Rattle.std.proofs.Common.{◌≡◌, ℕ, suc, ◌<◌, ◌≤◌, Bool, true, false, cond, List, [], ◌∷◌, Some, None, Option, refl, ⊎_elim, arith}
+use Rattle.std.proofs.Common.{◌≡◌, ℕ, suc, ◌<◌, ◌≤◌, Bool, true, false, cond, List, [], ◌∷◌, Some, None, Option, sym, refl, ◌∙◌, ⊎_elim, arith}
 use Rattle.std.specs.Option.{option_map}
 use Rattle.std.specs.List.{All, find}
 use Rattle.std.proofs.lemmas.Bool.{cases_lt}
+use Rattle.std.proofs.lemmas.Option.{none-some}
 use Rattle.kit.specs.Models.{Model, Sound, on}
 use Rattle.kit.specs.declared.shape.Side.{Side}
 use Rattle.kit.specs.declared.shape.Side.TheVariants.{In, Out}
@@ -37,4 +38,4 @@ kit_fits m h k n = go (m.pin k n) refl
 
     go : (o : Option Pin) → m.pin k n ≡ o → FitFound o
     go None e = tt
-    go (Some p) e = ⊎_elim (λ l. placed p l e) (λ l. absurd (let z : ◌≡◌ {A = ℕ} 0 1 = cc ((h.regular.unknown k l).no_pin n) in omega arith)) (cases_lt k m.count)
+    go (Some p) e = ⊎_elim (λ l. placed p l e) (λ l. absurd (none-some p (sym ((h.regular.unknown k l).no_pin n) ∙ e))) (cases_lt k m.count)

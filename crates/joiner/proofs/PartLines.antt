@@ -17,7 +17,7 @@ use Rattle.joiner.specs.Meaning.{word, piece_of, piece}
 use Rattle.joiner.specs.Joined.{with_piece, joined_part}
 use Rattle.joiner.specs.Verdicts.{broken, fault_at}
 use Rattle.joiner.specs.Scopes.{OtherTexts}
-use Rattle.joiner.specs.Stages.{Stage, LineStage, TextFrom, Unjoins}
+use Rattle.joiner.specs.Stages.{Stage, NextStage, NextJoined, LineStage, TextFrom, Unjoins}
 use Rattle.joiner.proofs.Firsts.{first_part}
 use Rattle.joiner.proofs.Stages.{upto_more, formed, entry_below, others_at}
 
@@ -119,7 +119,7 @@ module _ {m : Model} {s : List ℕ} {pins : List PinRecord} (parts : List PartRe
         ap (λ z. z.part) (g.connections_are.left i (omega arith))
         ∙ (fine.lines p has).own i (omega (arith, ap (λ z. z.connections) line_is)) (omega (arith, ap (λ z. z.connections) line_is, ap (λ z. z.count) line_is))
 
-    pub next_stage : Stage m s pins with_it cs ((get_or cs i blank_connection).part + 1) i
+    pub next_stage : NextStage m s pins with_it cs i
     next_stage = subst (λ (n : ℕ). Stage m s pins with_it cs (n + 1) i) (sym next_own) g
 
     pub next_others : (n : ℕ) → TextFrom s n p → TextFrom s n (get_or cs i blank_connection).part
@@ -131,8 +131,8 @@ module _ {m : Model} {s : List ℕ} {pins : List PinRecord} (parts : List PartRe
     pub next_texts : (n : ℕ) → TextFrom s n p → OtherTexts cs n (get_or cs i blank_connection).entry
     next_texts n h = others_at next_within next_stage n (next_others n h)
 
-    pub stage_out : (ds : List ConnectionRecord) → Stage m s pins with_it ds ((get_or cs i blank_connection).part + 1) (i + 1) → Stage m s pins with_it ds (p + 1) (i + 1)
-    stage_out ds h = subst (λ (n : ℕ). Stage m s pins with_it ds (n + 1) (i + 1)) next_own h
+    pub stage_out : (d : ConnectionRecord) → NextJoined m s pins with_it cs i d → Stage m s pins with_it (set cs i d) (p + 1) (i + 1)
+    stage_out d h = subst (λ (n : ℕ). Stage m s pins with_it (set cs i d) (n + 1) (i + 1)) next_own h
 
   -- the line is joined
   pub line_on : from + many ≤ i → i ≤ from + many → LineStage m s pins with_it cs (p + 1)

@@ -16,10 +16,10 @@ use Rattle.catalogue.specs.declared.records.Piece.TheVariants.{Entry, Kind}
 use Rattle.catalogue.specs.declared.records.PinRecord.{PinRecord}
 use Rattle.catalogue.specs.declared.records.PartRecord.{PartRecord}
 use Rattle.catalogue.specs.declared.records.ConnectionRecord.{ConnectionRecord}
-use Rattle.catalogue.specs.Records.{Records, blank_pin, blank_part, blank_connection}
+use Rattle.catalogue.specs.Records.{Records, blank_part, blank_connection}
 use Rattle.catalogue.specs.Shapes.{joint_of}
 use Rattle.wellformed.specs.Places.{part, connection, connection_place}
-use Rattle.wellformed.specs.WellFormed.{WellFormed, PinFits}
+use Rattle.wellformed.specs.WellFormed.{WellFormed}
 use Rattle.wellformed.proofs.Reading.{read_well_formed}
 use Rattle.joiner.specs.declared.ends.Far.{Far}
 use Rattle.joiner.specs.declared.join_fault.JoinFault.{JoinFault}
@@ -34,7 +34,7 @@ use Rattle.joiner.specs.Rules.{Met, Once, Wrong, no_pin, bad_bits, bad_end, othe
 use Rattle.joiner.specs.Faults.{fault_of}
 use Rattle.joiner.specs.Verdicts.{broken, fault_at}
 use Rattle.joiner.specs.Scopes.{EntryBelow, OtherTexts}
-use Rattle.joiner.specs.Stages.{Upto, ConnectionsUpto, Stage, TextFrom, Unjoins}
+use Rattle.joiner.specs.Stages.{Upto, Stage, NextStage, NextJoined, LeadsTo, TextFrom, Unjoins}
 use Rattle.joiner.proofs.Search.{Found, first_found}
 use Rattle.joiner.proofs.Feeders.{feeders}
 use Rattle.joiner.proofs.Firsts.{not_both, one_answer, near_of, first_connection}
@@ -93,7 +93,7 @@ piece_below m s n (Kind k) h = tt
 
 -- the next connection, i, whose part is joined
 module _ {m : Model} {s : List ℕ} {pins : List PinRecord} {parts : List PartRecord} {cs : List ConnectionRecord} {i : ℕ} (l : i < length cs)
-    (g : Stage m s pins parts cs ((get_or cs i blank_connection).part + 1) i) where
+    (g : NextStage m s pins parts cs i) where
   abbrev here : ConnectionRecord
   here = get_or cs i blank_connection
 
@@ -178,18 +178,14 @@ module _ {m : Model} {s : List ℕ} {pins : List PinRecord} {parts : List PartRe
       nr : near m s q i ≡ Some x
       nr = near_of m s q i (Some pin) (pin_named (Some pin) found) ∙ ap (λ c. slice_of pin c.bits) (sym is) ∙ sym sliced
 
-      -- what the code found at the far end, for whatever records it was
-      abbrev Leads : Option Far → Type 0
-      Leads o = (z : Records) → z.pins ≡ pins → ConnectionsUpto m s z i cs → near m s z i ≡ Some x → o ≡ far_end m s z i x
-
       same_near : (y : Pin) → near m s q i ≡ Some y → x ≡ y
       same_near y e = one_answer _ _ _ nr e
 
-      pub bad_end_at : Leads None → Unjoins m s (refusal.BadEnd place)
+      pub bad_end_at : LeadsTo m s pins cs i x None → Unjoins m s (refusal.BadEnd place)
       bad_end_at f =
           unjoins (refusal.BadEnd place) cause.BadEnd refl (bad_end x nr (sym (f q g.pins_are g.connections_are nr))) (low_pin pin (pin_named (Some pin) found))
 
-      module _ {f : Far} (leads : Leads (Some f)) where
+      module _ {f : Far} (leads : LeadsTo m s pins cs i x (Some f)) where
         fr : Some f ≡ far_end m s q i x
         fr = leads q g.pins_are g.connections_are nr
 
@@ -242,7 +238,7 @@ module _ {m : Model} {s : List ℕ} {pins : List PinRecord} {parts : List PartRe
                       w (ap (λ a. a.width) (sym v) ∙ e ∙ ap (λ a. a.width) u)
               low c (fed_twice j b k u y z) n = omega arith
 
-          pub stage_on : f.width ≡ x.width → (FedBefore cs i joined_here → ⊥) → Stage m s pins parts (set cs i joined_here) (here.part + 1) (i + 1)
+          pub stage_on : f.width ≡ x.width → (FedBefore cs i joined_here → ⊥) → NextJoined m s pins parts cs i joined_here
           stage_on e once = record {
             records = q;
             read = g.read;

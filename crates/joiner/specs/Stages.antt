@@ -1,9 +1,13 @@
 -- What is known while records are being joined.
-use Rattle.std.specs.Prelude.{◌≡◌, ℕ, ◌+◌, ◌<◌, ◌≤◌, List, length, Some, Option, MatchOption, ◌≢◌, slice_index_or}
+use Rattle.std.specs.Prelude.{◌≡◌, ℕ, ◌+◌, ◌<◌, ◌≤◌, List, length, Some, Option, MatchOption, ◌≢◌, slice_index_or, slice_set}
 use Rattle.fault.specs.declared.Cause.{Cause}
 use Rattle.fault.specs.declared.Place.{Place}
 use Rattle.bundle.specs.Layout.{count}
 use Rattle.kit.specs.Models.{Model}
+use Rattle.kit.specs.declared.shape.Pin.{Pin}
+use Rattle.catalogue.specs.declared.records.Span.{Span}
+use Rattle.catalogue.specs.declared.records.Subscript.{Subscript}
+use Rattle.catalogue.specs.declared.records.FarEnd.TheVariants as far
 use Rattle.catalogue.specs.declared.records.Piece.{Piece}
 use Rattle.catalogue.specs.declared.records.PinRecord.{PinRecord}
 use Rattle.catalogue.specs.declared.records.PartRecord.{PartRecord}
@@ -14,7 +18,8 @@ use Rattle.wellformed.specs.Places.{part, connection}
 use Rattle.wellformed.specs.WellFormed.{line_start}
 use Rattle.joiner.specs.declared.join_fault.JoinFault.{JoinFault}
 use Rattle.joiner.specs.declared.join_fault.JoinFault.TheVariants as refusal
-use Rattle.joiner.specs.Meaning.{piece}
+use Rattle.joiner.specs.declared.ends.Far.{Far}
+use Rattle.joiner.specs.Meaning.{piece, near, far_of, far_end}
 use Rattle.joiner.specs.Joined.{joined, joined_part, joined_connection}
 use Rattle.joiner.specs.Rules.{Met, Once, Joins}
 use Rattle.joiner.specs.Faults.{fault_of}
@@ -57,6 +62,22 @@ module _ (m : Model) (s : List ℕ) where
     pub known : (q : ℕ) → q < p → (x : Piece) × (piece m s records q ≡ Some x)
     pub met : (i : ℕ) → i < n → Met m s records i
     pub once : (i : ℕ) → i < n → Once m s records i
+
+  -- all before the connection i, and its part
+  abbrev pub NextStage : List PinRecord → List PartRecord → List ConnectionRecord → ℕ → Type 0
+  NextStage pins parts cs i = Stage pins parts cs ((slice_index_or cs i blank_connection).part + 1) i
+
+  -- and this connection too, as c
+  abbrev pub NextJoined : List PinRecord → List PartRecord → List ConnectionRecord → ℕ → ConnectionRecord → Type 0
+  NextJoined pins parts cs i c = Stage pins parts (slice_set cs i c) ((slice_index_or cs i blank_connection).part + 1) (i + 1)
+
+  -- what stands at the far end of the connection i, which joins the bits p, whatever records were read
+  abbrev pub LeadsTo : List PinRecord → List ConnectionRecord → ℕ → Pin → Option Far → Type 0
+  LeadsTo pins cs i p o = (r : Records) → r.pins ≡ pins → ConnectionsUpto r i cs → near m s r i ≡ Some p → o ≡ far_end m s r i p
+
+  -- the same, were that end the pin of the name n with the subscript b
+  abbrev pub NameLeadsTo : List PinRecord → List ConnectionRecord → ℕ → Pin → Span → Subscript → Option Far → Type 0
+  NameLeadsTo pins cs i p n b o = (r : Records) → r.pins ≡ pins → ConnectionsUpto r i cs → near m s r i ≡ Some p → o ≡ far_of m s r i p (far.Pin n b)
 
   -- the first p parts and all their connections are
   pub record LineStage (pins : List PinRecord) (parts : List PartRecord) (cs : List ConnectionRecord) (p : ℕ) : Type 0 where

@@ -9,6 +9,8 @@ use catalogue::{ConnectionRecord, PartRecord};
 use kit::Kit;
 
 /// The part `p` and its connections are joined. No connection before `from` is of its text.
+// Two slices, as a struct of two `&mut` needs one clause more for whose memory each is. An index, as
+// each record changes while all of its slice is read.
 fn join_part<K: Kit>(
     scope: &Scope<'_, K>,
     from: usize,
@@ -62,6 +64,7 @@ fn text_start(parts: &[PartRecord], from: usize, p: usize) -> usize
 }
 
 /// All parts and connections are joined.
+// An index, as a part changes while all parts are read.
 pub(crate) fn join_parts<K: Kit>(
     scope: &Scope<'_, K>,
     parts: &mut [PartRecord],

@@ -1,13 +1,12 @@
 //! A connection is joined, where the connections before it are.
-ghost use Rattle.std.specs.Prelude.{◌≡◌, ℕ, ◌+◌, ◌<◌, List, length, Some, IfSome, Decides, MatchResult, slice_index_or, slice_set};
+ghost use Rattle.std.specs.Prelude.{◌≡◌, ℕ, ◌<◌, List, length, IfSome, Decides, MatchResult, slice_index_or};
 ghost use Rattle.bundle.specs.Layout.{count, text};
-ghost use Rattle.catalogue.specs.Records.{Records, blank_connection};
-ghost use Rattle.catalogue.specs.declared.records.FarEnd.TheVariants.{Pin as WrittenPin};
+ghost use Rattle.catalogue.specs.Records.{blank_connection};
 ghost use Rattle.joiner.specs.Feeding.{FedBefore, feed};
 ghost use Rattle.joiner.specs.Feeders.{Feeders, SinkBelow, first_feeder};
-ghost use Rattle.joiner.specs.Meaning.{earlier_mention, far_end, far_of, mentions, near as near_at};
+ghost use Rattle.joiner.specs.Meaning.{earlier_mention, mentions};
 ghost use Rattle.joiner.specs.Scopes.{OtherTexts};
-ghost use Rattle.joiner.specs.Stages.{ConnectionsUpto, Stage, TextFrom, Unjoins};
+ghost use Rattle.joiner.specs.Stages.{LeadsTo, NameLeadsTo, NextJoined, NextStage, TextFrom, Unjoins};
 
 use crate::ends::{Far, chip_end, constant_end, internal_end, slice};
 use crate::feeds::{Sink, feed_of, is_fed};
@@ -54,7 +53,7 @@ impl<'s, 'a, K: Kit> Turn<'s, 'a, K> {
 
     /// The name at the far end: a pin of the chip if declared, else an internal pin.
     fn named_end(&self, near: Pin, span: Span, bits: Subscript) -> Option<Far>
-        ensures { (r : Records) → r.pins ≡ self.now.scope.now.pins.now → ConnectionsUpto (K.Kit.model self.now.scope.now.kit.now) self.now.scope.now.bundle.bytes.now r self.now.i self.now.connections.now → near_at (K.Kit.model self.now.scope.now.kit.now) self.now.scope.now.bundle.bytes.now r self.now.i ≡ Some near → result ≡ far_of (K.Kit.model self.now.scope.now.kit.now) self.now.scope.now.bundle.bytes.now r self.now.i near (WrittenPin span bits) }
+        ensures { NameLeadsTo (K.Kit.model self.now.scope.now.kit.now) self.now.scope.now.bundle.bytes.now self.now.scope.now.pins.now self.now.connections.now self.now.i near span bits result }
     {
         let chip = self.connections[self.i].entry;
         let name = self.scope.word(chip, span);
@@ -69,7 +68,7 @@ impl<'s, 'a, K: Kit> Turn<'s, 'a, K> {
 
     /// What stands at the far end of the connection, which joins these bits of its part, if it may.
     fn far_end(&self, near: Pin) -> Option<Far>
-        ensures { (r : Records) → r.pins ≡ self.now.scope.now.pins.now → ConnectionsUpto (K.Kit.model self.now.scope.now.kit.now) self.now.scope.now.bundle.bytes.now r self.now.i self.now.connections.now → near_at (K.Kit.model self.now.scope.now.kit.now) self.now.scope.now.bundle.bytes.now r self.now.i ≡ Some near → result ≡ far_end (K.Kit.model self.now.scope.now.kit.now) self.now.scope.now.bundle.bytes.now r self.now.i near }
+        ensures { LeadsTo (K.Kit.model self.now.scope.now.kit.now) self.now.scope.now.bundle.bytes.now self.now.scope.now.pins.now self.now.connections.now self.now.i near result }
     {
         match self.connections[self.i].far {
             FarEnd::Constant(level) => constant_end(near.side, near.width, level),
@@ -106,10 +105,10 @@ impl<'s, 'a, K: Kit> Turn<'s, 'a, K> {
 
     /// The connection, joined. Here and nowhere else it is said what is wrong with a connection.
     pub(crate) fn join(&self) -> Result<ConnectionRecord, JoinFault>
-        requires stage { Stage (K.Kit.model self.now.scope.now.kit.now) self.now.scope.now.bundle.bytes.now self.now.scope.now.pins.now self.now.parts.now self.now.connections.now ((slice_index_or self.now.connections.now self.now.i blank_connection).part + 1) self.now.i }
+        requires stage { NextStage (K.Kit.model self.now.scope.now.kit.now) self.now.scope.now.bundle.bytes.now self.now.scope.now.pins.now self.now.parts.now self.now.connections.now self.now.i }
         requires others { TextFrom self.now.scope.now.bundle.bytes.now self.now.from (slice_index_or self.now.connections.now self.now.i blank_connection).part }
         ensures { MatchResult result
-            (λ c. Stage (K.Kit.model self.now.scope.now.kit.now) self.now.scope.now.bundle.bytes.now self.now.scope.now.pins.now self.now.parts.now (slice_set self.now.connections.now self.now.i c) ((slice_index_or self.now.connections.now self.now.i blank_connection).part + 1) (self.now.i + 1))
+            (λ c. NextJoined (K.Kit.model self.now.scope.now.kit.now) self.now.scope.now.bundle.bytes.now self.now.scope.now.pins.now self.now.parts.now self.now.connections.now self.now.i c)
             (λ f. Unjoins (K.Kit.model self.now.scope.now.kit.now) self.now.scope.now.bundle.bytes.now f) }
     {
         let mut connection = self.connections[self.i];

@@ -1,4 +1,3 @@
-use Rattle.std.proofs.Common.{take, ap, ◌∙◌}
 use Rattle.joiner.proofs.Lent.{pins_fit, opened_stage, opened_joined}
 use Rattle.joiner.proofs.join_rows.Goals as goal
 

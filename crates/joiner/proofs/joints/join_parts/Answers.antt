@@ -1,5 +1,4 @@
 use Rattle.std.proofs.Common.{◌≡◌, ℕ, ◌<◌, length, sym, subst, arith}
-use Rattle.std.proofs.lemmas.Result.{err_from_is_err_and}
 use Rattle.joiner.specs.Stages.{TextFrom}
 use Rattle.joiner.proofs.Texts.{text_at}
 use Rattle.joiner.proofs.joints.join_parts.Goals as goal
@@ -8,11 +7,6 @@ pub join_part-requires : goal.join_part-requires
 join_part-requires g c =
     let l : c.loop-p.p < length c.loop-p.parts = omega (arith, c.loop-p-test.true, c.loop-p.auto.parts) in
     record { within = l; stage = c.loop-p.invariant.0; others = text_at l c.loop-p.invariant.0 c.text_start-from.ensures c.loop-p.invariant.1 }
-
-pub returns-in_err-join_part : goal.returns-in_err-join_part
-returns-in_err-join_part g c =
-    let p = err_from_is_err_and c.from_residual.result c.from_residual.ensures.1 in
-    rw (p.1, p.2) c.in_err-join_part.ensures
 
 pub loop-p-preserved : goal.loop-p-preserved
 loop-p-preserved g c =

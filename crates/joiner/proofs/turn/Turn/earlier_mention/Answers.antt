@@ -1,4 +1,4 @@
-use Rattle.std.proofs.Common.{◌≡◌, true, false, Option, Some, None, get_or, ◌∙◌, rules, MatchOption}
+use Rattle.std.proofs.Common.{◌≡◌, true, false, Some, None, get_or, ◌∙◌, rules}
 use borrow.Author.Tests.{tests}
 use Rattle.std.specs.List.{between}
 use Rattle.std.proofs.lemmas.Iterator.{IsFirst-from_position, YieldsList-from_slice}
