@@ -6,7 +6,7 @@ ghost use Rattle.fault.specs.Faults.{number_of};
 ghost use Rattle.kit.specs.Atoms.{atoms};
 ghost use Rattle.exports.specs.Answers.{Answered, Judged};
 
-use catalogue::{Catalogue, Counts, Room};
+use catalogue::{Counts, Room};
 use fault::Fault;
 use joiner::join;
 use kit::Atoms;
@@ -27,12 +27,8 @@ fn number(verdict: Result<Counts, Fault>) -> u32
 pub extern "C" fn tethersecond_read(bytes: &[u8]) -> u32
     ensures { Answered bytes.now result }
 {
-    let Room {
-        mut pins,
-        mut parts,
-        mut connections,
-    } = Room::new();
-    let mut catalogue = Catalogue::new(&mut pins, &mut parts, &mut connections);
+    let mut room = Room::new();
+    let mut catalogue = room.catalogue();
     number(read(bytes, &mut catalogue))
 }
 
@@ -42,11 +38,7 @@ pub extern "C" fn tethersecond_read(bytes: &[u8]) -> u32
 pub extern "C" fn tethersecond_join(bytes: &[u8]) -> u32
     ensures { Judged atoms bytes.now result }
 {
-    let Room {
-        mut pins,
-        mut parts,
-        mut connections,
-    } = Room::new();
-    let mut catalogue = Catalogue::new(&mut pins, &mut parts, &mut connections);
+    let mut room = Room::new();
+    let mut catalogue = room.catalogue();
     number(join(&Atoms, bytes, &mut catalogue))
 }

@@ -6,7 +6,7 @@ ghost use Rattle.report.specs.Refusals.{WhenTold};
 ghost use Rattle.inspect.specs.Checks.{Joined, Unjoined};
 
 use bundle::Bundle;
-use catalogue::{Catalogue, Counts, Room};
+use catalogue::{Counts, Room};
 use joiner::join;
 use kit::Kit;
 use report::{Refusal, refused};
@@ -35,12 +35,8 @@ pub fn check<K: Kit>(heap: Global, kit: &K, bytes: &[u8]) -> Result<Vec<u8>, Ref
         (λ _. Joined (K.Kit.model kit.now) bytes.now)
         (λ r. WhenTold r (Unjoined (K.Kit.model kit.now) bytes.now room)) }
 {
-    let Room {
-        mut pins,
-        mut parts,
-        mut connections,
-    } = Room::new();
-    let mut catalogue = Catalogue::new(&mut pins, &mut parts, &mut connections);
+    let mut room = Room::new();
+    let mut catalogue = room.catalogue();
     match join(kit, bytes, &mut catalogue) {
         Ok(counts) => Ok(summary(heap, bytes, counts)?),
         Err(fault) => Err(refused(heap, bytes, fault)),

@@ -48,12 +48,8 @@ fn print_verdicts(rt: &HostRuntime, verdicts: Verdicts) -> io::Result<()> {
 
 fn main(rt: HostRuntime) -> Result<(), Stop> {
     let heap = rt.alloc();
-    let Room {
-        mut pins,
-        mut parts,
-        mut connections,
-    } = Room::new();
-    let mut catalogue = Catalogue::new(&mut pins, &mut parts, &mut connections);
+    let mut room = Room::new();
+    let mut catalogue = room.catalogue();
     for line in rt.lines(heap) {
         let bundle = bundle_of(heap, line?.as_str())?;
         print_verdicts(&rt, judge(bundle.as_slice(), &mut catalogue))?;
