@@ -199,10 +199,11 @@ fn dispatch(rt: &HostRuntime, words: &[String]) -> Result<(), Stop> {
             print!(rt; "{USAGE}")?;
             Ok(())
         }
-        ("pack", [out, first, ..]) => pack_files(rt, out.as_str(), &rest[1..]),
+        ("pack", [out, paths @ ..]) if !paths.is_empty() => pack_files(rt, out.as_str(), paths),
         ("pack", _) => misused(rt, "pack", "OUT FILE.hdl ..."),
-        ("list", [bundle]) => show(rt, bundle.as_str(), list),
-        ("outline", [bundle]) => show(rt, bundle.as_str(), outline),
+        // Closures, since a function of another crate that is passed by its name gets no proof.
+        ("list", [bundle]) => show(rt, bundle.as_str(), |heap, bytes| list(heap, bytes)),
+        ("outline", [bundle]) => show(rt, bundle.as_str(), |heap, bytes| outline(heap, bytes)),
         ("list" | "outline", _) => misused(rt, command.as_str(), "BUNDLE"),
         ("check", [bundle]) => check_bundle(rt, bundle.as_str(), None),
         ("check", [flag, rom, bundle]) if flag.as_str() == "--rom" => {
