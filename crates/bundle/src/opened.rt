@@ -10,6 +10,7 @@ use fault::Fault;
 #[derive(Clone, Copy)]
 pub struct Bundle<'a> {
     bytes: &'a [u8],
+    // Kept, so that it is read once; `counted` ties it to the bytes.
     entries: usize,
     pub ghost layout: { Layout bytes.now },
     pub ghost counted: { entries ≡ count bytes.now },
@@ -84,6 +85,7 @@ impl<'a> Bundle<'a> {
     }
 
     /// The number of the entry that goes by the name.
+    // A walk over at most 128 rows, most of which differ in length or in the last byte.
     pub fn find(&self, name: &[u8]) -> Option<usize>
         ensures first { MatchOption result
             ((k : ℕ) → Goes self.now name.now k → ⊥)

@@ -43,6 +43,7 @@ impl fmt::Display for Subscript {
 pub struct PinRecord {
     pub entry: usize,
     pub name: Span,
+    // These three are columns of docs/CATALOGUE.md, and become the kit's `Pin` by `From`.
     pub side: Side,
     /// The first bit of the pin on its side.
     pub offset: usize,

@@ -47,6 +47,7 @@ impl<'c, R: Record> Table<'c, R> {
     }
 
     /// One record more, if there is room.
+    // Whoever puts one in has asked for room first, and no public function has a `requires`.
     pub fn push(&mut self, row: R)
         ensures kept { Kept self.old self.new }
         ensures held { (xs : List R) → Held R.Record.BLANK self.old xs → self.old.used < length self.old.rows.now → Held R.Record.BLANK self.new (xs ++ row ∷ []) }

@@ -51,12 +51,14 @@ pub enum Cause {
 
 impl Cause {
     /// Whether it is this cause.
+    // A derive carries no contract: this one says what `==` means.
     pub fn is(self, other: Cause) -> bool
         ensures { Decides result (self ≡ other) }
     {
         self == other
     }
 
+    // Asked for by name, since a cause is no number: `u8::from(cause)` would say less.
     pub fn number(self) -> u8
         ensures { result ≡ number_of self }
     {
@@ -147,7 +149,7 @@ impl fmt::Display for Layer {
 }
 
 /// Where a fault stands: the number of the entry and the byte of its text, both from 0.
-#[derive(Clone, Copy, Debug, PartialEq, Eq)]
+#[derive(Clone, Copy, Debug, PartialEq, Eq, PartialOrd, Ord)]
 pub struct Place {
     pub entry: usize,
     pub byte: usize,
@@ -155,7 +157,7 @@ pub struct Place {
 
 /// A refusal. Number and layer follow from the cause; outside reading and joining the place is
 /// entry 0, byte 0.
-#[derive(Clone, Copy, Debug)]
+#[derive(Clone, Copy, Debug, PartialEq, Eq)]
 pub struct Fault {
     pub cause: Cause,
     pub place: Place,
@@ -163,6 +165,7 @@ pub struct Fault {
 
 impl Fault {
     /// A fault that stands at no place in a text.
+    // No Option: every fault has a place, entry 0 and byte 0 where it stands in no text (docs/FAULTS.md).
     pub fn of_whole(cause: Cause) -> Fault
         ensures { result ≡ nowhere cause }
     {

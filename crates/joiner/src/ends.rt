@@ -14,6 +14,7 @@ pub(crate) struct Far {
 }
 
 /// The bits `low` to `high` of a pin, if it has them.
+// That its bits are within 64 is said here: `Pin` is the kit's, and an invariant there would ask more of kits.
 fn range(pin: Pin, low: usize, high: usize) -> Option<Pin>
     requires { pin.first + pin.width ≤ 64 }
     ensures { result ≡ range_of pin low high }

@@ -5,7 +5,7 @@ ghost use Rattle.joiner.specs.Faults.{fault_of};
 use fault::{Cause, Fault, Place};
 
 /// What is wrong, and where.
-#[derive(Clone, Copy, Debug)]
+#[derive(Clone, Copy, Debug, PartialEq, Eq)]
 pub enum JoinFault {
     /// Neither the bundle nor the kit has a part of this name.
     UnknownPart(Place),

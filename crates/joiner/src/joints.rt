@@ -9,7 +9,8 @@ use catalogue::{ConnectionRecord, PartRecord};
 use kit::Kit;
 
 /// The part `p` and its connections are joined. No connection before `from` is of its text.
-// Two slices, as a struct of two `&mut` needs one clause more for whose memory each is. An index, as
+// Scope, parts and connections are no struct: of two `&mut` it would need a clause more for whose memory
+// each is, at every call. An index, as
 // each record changes while all of its slice is read.
 fn join_part<K: Kit>(
     scope: &Scope<'_, K>,

@@ -30,6 +30,7 @@ pub use join_fault::JoinFault;
 pub use single::verdicts_are_one;
 
 /// Joins the records of a bundle that were read into lent memory, so many.
+// The catalogue comes taken apart: the scope keeps the pins while parts and connections change.
 fn join_rows<'a, K: Kit>(
     kit: &'a K,
     bytes: &'a [u8],

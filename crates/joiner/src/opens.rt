@@ -22,6 +22,8 @@ fn bits_at(sink: Sink, pin: &PinRecord) -> Feed
     }
 }
 
+// Three kinds of record are sought through, by a chain each.
+
 /// Whether a bit of a pin, if it is an output, is never fed.
 fn is_open_output(connections: &[ConnectionRecord], pin: &PinRecord) -> bool
     requires { PinFits pin.now }
@@ -133,14 +135,7 @@ pub(crate) fn sooner(a: Option<Place>, b: Option<Place>) -> Option<Place>
     ensures { result ≡ sooner_of a b }
 {
     match (a, b) {
-        (Some(x), Some(y)) => {
-            if (y.entry, y.byte) < (x.entry, x.byte) {
-                b
-            } else {
-                a
-            }
-        }
-        (Some(_), None) => a,
-        (None, _) => b,
+        (Some(x), Some(y)) => Some(x.min(y)),
+        _ => a.or(b),
     }
 }

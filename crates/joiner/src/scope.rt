@@ -27,6 +27,7 @@ fn declares(source: &[u8], chip: usize, name: &[u8], pin: &PinRecord) -> bool
 
 impl<'a, K: Kit> Scope<'a, K> {
     /// An entry's text.
+    // That an entry is below the count is said where it is named: a type for it would have to hold the bundle.
     pub(crate) fn source(&self, chip: usize) -> &'a [u8]
         requires { chip < count self.now.bundle.bytes.now }
         ensures { result.now ≡ text self.now.bundle.bytes.now chip }

@@ -36,6 +36,7 @@ fn sought(side: Side, pins: &[Listed], name: &[u8]) -> Option<Pin>
     requires { bits (listed pins.now) ≤ 64 }
     ensures { result ≡ sought side 0 (listed pins.now) name.now }
 {
+    // One `for`: by `position`, the widths before a pin would be gone over a second time.
     let mut first = 0;
     for Listed(known, width) in pins {
         if text::same(name, known) {

@@ -21,6 +21,8 @@ pub const MAX_KINDS: usize = 65535;
 /// 3. `next` of an unclocked kind is 0.
 /// 4. Two input words that agree on the waits of an output bit give that bit the same level from
 ///    the same state.
+// A kind is a number, since a pair counts the second kit's kinds on from the first's. Kind, input word and
+// state are no struct: each arm of an answer would take it apart again.
 pub trait Kit {
     ghost model: { Self → Model };
 

@@ -50,8 +50,8 @@ impl<F: Kit, S: Kit> Pair<F, S> {
     }
 }
 
-// Each question is asked in both arms of its own match: F and S are two types, so that what the arms
-// share has no type without a boxed kit, and a closure for each arm would be longer than the arm.
+// Each question is asked in both arms of its own match: F and S are two types, a `&dyn Kit` of either gets
+// no proof here, and a closure for each arm would be longer than the arm.
 impl<F: Kit, S: Kit> Kit for Pair<F, S> {
     ghost model = { λ p. pair (F.Kit.model p.first) (S.Kit.model p.second) };
 

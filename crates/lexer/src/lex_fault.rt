@@ -5,7 +5,7 @@ ghost use Rattle.lexer.specs.Faults.{to_fault};
 use fault::{Cause, Fault, Place};
 
 /// At the place stands neither a separator, a token nor the end of the text.
-#[derive(Clone, Copy, Debug)]
+#[derive(Clone, Copy, Debug, PartialEq, Eq)]
 pub struct LexFault {
     pub place: Place,
 }

@@ -46,6 +46,7 @@ impl<'a> Lexer<'a> {
     }
 
     /// The next token, or `None` at the text's end. A refusal leaves the lexer as it was.
+    // No `Iterator`: callers ask for the place between two tokens.
     pub fn next(&mut self) -> Result<Option<Token<'a>>, LexFault>
         ensures over { (self.new.text.now ≡ self.old.text.now)
             × (self.new.entry ≡ self.old.entry) }

@@ -33,7 +33,8 @@ pub enum Token<'a> {
 }
 
 /// What a token is, without what it holds.
-// The rules of a text compare with kinds by name, and `std::mem::discriminant` has no such names.
+// The rules of a text compare with kinds by name, and `std::mem::discriminant` has no such names; a token
+// that held a kind would make each match on it two deep.
 #[derive(Clone, Copy, Debug, PartialEq, Eq)]
 pub enum Kind {
     Name,
@@ -79,6 +80,7 @@ impl From<Keyword> for Token<'_> {
 
 impl Kind {
     /// Whether it is this kind.
+    // A derive carries no contract: this one says what `==` means.
     pub fn is(self, other: Kind) -> bool
         ensures { Decides result (self ≡ other) }
     {

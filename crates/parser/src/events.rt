@@ -5,6 +5,7 @@ ghost use Rattle.parser.specs.Events.{end_event, line_end, event_of, is_done, op
 use catalogue::{FarEnd, Side, Span, Subscript};
 use progress::{End, Near, State};
 
+// Data and no closure: what a token says is proved before anything is done with it.
 #[derive(Clone, Copy)]
 pub enum Event {
     /// This is the chip's name.

@@ -7,7 +7,7 @@ use fault::{Cause, Fault, Place};
 use lexer::LexFault;
 
 /// What is wrong with a text, and where.
-#[derive(Clone, Copy, Debug)]
+#[derive(Clone, Copy, Debug, PartialEq, Eq)]
 pub enum ReadFault {
     /// No token stands there.
     Lex(LexFault),

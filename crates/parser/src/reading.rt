@@ -48,6 +48,8 @@ fn is_name(token: Token<'_>, name: &[u8]) -> bool
     }
 }
 
+// What is read goes through the next two, so that `take` is one `match` with a call in each arm.
+
 /// What is read, if the token is the name.
 fn with_name(
     read: Reading,

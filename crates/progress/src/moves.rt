@@ -13,7 +13,7 @@ use lexer::{Kind, Token};
 fn wanted(mark: Kind, only: Kind, next: State) -> Option<State>
     ensures { Turns mark only next Stops result }
 {
-    if mark == only { Some(next) } else { None }
+    (mark == only).then_some(next)
 }
 
 /// The state behind one of two marks.

@@ -16,6 +16,7 @@ pub enum Keyword {
 
 impl Keyword {
     /// The reserved word that the bytes are, if they are one.
+    // An Option and no `TryFrom`: bytes that are no reserved word are no error.
     pub fn of(bytes: &[u8]) -> Option<Keyword>
         ensures { MatchOption result (Reserved bytes.now → ⊥) (λ k. bytes.now ≡ spelling k) }
     {

@@ -22,10 +22,10 @@ fn is_word(bytes: &[u8]) -> bool
 pub fn is_name(bytes: &[u8]) -> bool
     ensures { Decides result (Named bytes.now) }
 {
-    if bytes.is_empty() || bytes.len() > MAX_NAME || !bytes[0].is_ascii_alphabetic() {
-        return false;
-    }
-    is_word(bytes) && Keyword::of(bytes).is_none()
+    bytes.first().is_some_and(|b| b.is_ascii_alphabetic())
+        && bytes.len() <= MAX_NAME
+        && is_word(bytes)
+        && Keyword::of(bytes).is_none()
 }
 
 /// How two names compare: byte by byte, and a name that the other goes on from comes first.
@@ -39,14 +39,14 @@ pub fn compare(a: &[u8], b: &[u8]) -> Ordering
 fn ends_alike(a: &[u8], b: &[u8]) -> bool
     ensures { a.now ≡ b.now → result ≡ true }
 {
-    let n = a.len();
-    n == b.len() && (n == 0 || a[n - 1] == b[n - 1])
+    a.len() == b.len() && a.last() == b.last()
 }
 
 /// Whether two names are the same.
+#[tactic(auto, using(crate::proofs::Comparing::same_order, crate::proofs::Comparing::order_same))]
 pub fn same(a: &[u8], b: &[u8]) -> bool
     ensures same { Decides result (a.now ≡ b.now) }
     ensures value { result ≡ bytes_eq a.now b.now }
 {
-    ends_alike(a, b) && matches!(compare(a, b), Ordering::Equal)
+    ends_alike(a, b) && compare(a, b) == Ordering::Equal
 }

@@ -1,9 +1,7 @@
 use Rattle.std.proofs.Common.{rules}
-use Rattle.text.proofs.Comparing.{same_order, unlike_order}
+use Rattle.std.proofs.lemmas.Slice.Eq.{bytes_eq-Decides}
+use Rattle.text.proofs.Comparing.{same_order, order_same}
 use Rattle.text.proofs.name.same.Goals as goal
 
-pub returns-in-Equal : goal.returns-in-Equal
-returns-in-Equal c = search (rules, same_order)
-
-pub returns-in_default : goal.returns-in_default
-returns-in_default c = search (rules, unlike_order)
+pub returns-then-ends_alike-clause-value : goal.returns-then-ends_alike-clause-value
+returns-then-ends_alike-clause-value c = search (rules, same_order, order_same, bytes_eq-Decides)
