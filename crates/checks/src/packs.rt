@@ -90,6 +90,7 @@ fn full_bundle(rt: HostRuntime) -> Result<(), Fail> {
     let heap = rt.alloc();
     let names = b"ABCDEFGHIJKLMNOPQRSTUVWXYZabcdefghijklmnopqrstuvwxyz";
     let mut sources = Vec::new(heap);
+    // By number: up to three names begin at each letter, and chains of windows are no plainer.
     for i in 0..52 {
         sources.push(source(&names[i..i + 1], b"t"))?;
         if i + 2 <= 52 {

@@ -96,6 +96,7 @@ fn text_name(path: &[u8]) -> &[u8] {
 }
 
 /// Each text with the name of its file.
+// Where the test programs name texts, by letters, only this chain is the same.
 fn sources_of<'a>(
     heap: Global,
     paths: &'a [String],

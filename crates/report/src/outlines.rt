@@ -6,7 +6,6 @@ ghost use Rattle.report.specs.Refusals.{WhenTold};
 
 use crate::chips::outline_text;
 use crate::refusals::{Refusal, refused};
-use bundle::Bundle;
 use catalogue::Room;
 use reader::read;
 use std::alloc::Global;
