@@ -6,6 +6,7 @@ ghost use Rattle.catalogue.specs.Holding.{Enough, Fills, Lent, Long, counted, sl
 use crate::lent::Table;
 use crate::records::{ConnectionRecord, PartRecord, PinRecord};
 use crate::table::Record;
+use std::fmt;
 
 /// The least pin records that a catalogue has, and the most that the texts fill.
 pub const PINS: usize = 1_024;
@@ -22,6 +23,17 @@ pub struct Counts {
     pub pins: usize,
     pub parts: usize,
     pub connections: usize,
+}
+
+impl fmt::Display for Counts {
+    fn fmt<W: fmt::Write>(&self, f: &mut fmt::Formatter<W>) -> fmt::Result {
+        let Counts {
+            pins,
+            parts,
+            connections,
+        } = *self;
+        write!(f, "{pins} pins, {parts} parts, {connections} connections")
+    }
 }
 
 /// The records of a bundle's texts, in the order of the texts.

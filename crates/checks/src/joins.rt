@@ -1,12 +1,12 @@
 //! Texts that are joined, and what the records then hold; faults of joining as a person sees them.
 use catalogue::{
     CONNECTIONS, Catalogue, ConnectionRecord, Counts, Joint, PARTS, PINS, PartRecord, Piece,
-    PinRecord, Record, Side, Target,
+    PinRecord, Record, Target,
 };
 use fault::Fault;
 use inspect::check;
 use joiner::join;
-use kit::{Atoms, Kit, Pair, Rom};
+use kit::{Atoms, Kit, Pair, Pin, Rom};
 use packer::{Source, pack};
 use report::Refusal;
 use samplekit::Sample;
@@ -81,26 +81,6 @@ fn refused<K: Kit>(
     }
 }
 
-/// A part's input, from these bits on.
-fn input(first: usize, width: usize, target: Target) -> Joint {
-    Joint {
-        side: Side::In,
-        offset: first,
-        width,
-        target,
-    }
-}
-
-/// A part's output, from these bits on.
-fn output(first: usize, width: usize, target: Target) -> Joint {
-    Joint {
-        side: Side::Out,
-        offset: first,
-        width,
-        target,
-    }
-}
-
 /// What the part and the connections of these numbers are resolved to.
 fn resolved(
     rt: &impl Abort,
@@ -140,9 +120,9 @@ fn resolved_fields(rt: HostRuntime) -> Result<(), Fail> {
         0,
         nand,
         &[
-            input(0, 1, Target::Input(0)),
-            input(1, 1, Target::Input(4)),
-            output(0, 1, Target::Output(1)),
+            Joint::of(Pin::input(0, 1), Target::Input(0)),
+            Joint::of(Pin::input(1, 1), Target::Input(4)),
+            Joint::of(Pin::output(0, 1), Target::Output(1)),
         ],
     )?;
     resolved(
@@ -151,9 +131,9 @@ fn resolved_fields(rt: HostRuntime) -> Result<(), Fail> {
         1,
         nand,
         &[
-            input(0, 1, Target::Input(1)),
-            input(1, 1, Target::Constant(true)),
-            output(0, 1, Target::Output(2)),
+            Joint::of(Pin::input(0, 1), Target::Input(1)),
+            Joint::of(Pin::input(1, 1), Target::Constant(true)),
+            Joint::of(Pin::output(0, 1), Target::Output(2)),
         ],
     )?;
     resolved(
@@ -162,8 +142,8 @@ fn resolved_fields(rt: HostRuntime) -> Result<(), Fail> {
         2,
         Piece::Kind(1),
         &[
-            input(0, 1, Target::Constant(false)),
-            output(0, 1, Target::Output(0)),
+            Joint::of(Pin::input(0, 1), Target::Constant(false)),
+            Joint::of(Pin::output(0, 1), Target::Output(0)),
         ],
     )?;
     resolved(
@@ -172,11 +152,11 @@ fn resolved_fields(rt: HostRuntime) -> Result<(), Fail> {
         3,
         Piece::Entry(0),
         &[
-            input(0, 1, Target::Internal(8)),
-            input(2, 3, Target::Input(0)),
-            input(1, 1, Target::Input(3)),
-            output(0, 2, Target::Internal(11)),
-            output(2, 1, Target::Internal(8)),
+            Joint::of(Pin::input(0, 1), Target::Internal(8)),
+            Joint::of(Pin::input(2, 3), Target::Input(0)),
+            Joint::of(Pin::input(1, 1), Target::Input(3)),
+            Joint::of(Pin::output(0, 2), Target::Internal(11)),
+            Joint::of(Pin::output(2, 1), Target::Internal(8)),
         ],
     )?;
     resolved(
@@ -185,9 +165,9 @@ fn resolved_fields(rt: HostRuntime) -> Result<(), Fail> {
         4,
         nand,
         &[
-            input(0, 1, Target::Internal(8)),
-            input(1, 1, Target::Internal(8)),
-            output(0, 1, Target::Output(0)),
+            Joint::of(Pin::input(0, 1), Target::Internal(8)),
+            Joint::of(Pin::input(1, 1), Target::Internal(8)),
+            Joint::of(Pin::output(0, 1), Target::Output(0)),
         ],
     )
 }

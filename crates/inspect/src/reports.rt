@@ -18,14 +18,7 @@ fn summary(heap: Global, bytes: &[u8], counts: Counts) -> Result<Vec<u8>, AllocE
     requires { Layout bytes.now }
 {
     let chips = Bundle::open(bytes).unwrap().count();
-    let Counts {
-        pins,
-        parts,
-        connections,
-    } = counts;
-    let line = format!(in heap;
-        "{chips} chips, {pins} pins, {parts} parts, {connections} connections: all joined\n"
-    )?;
+    let line = format!(in heap; "{chips} chips, {counts}: all joined\n")?;
     Ok(line.into_bytes())
 }
 

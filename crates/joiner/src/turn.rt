@@ -94,6 +94,7 @@ impl<'s, 'a, K: Kit> Turn<'s, 'a, K> {
         requires { IfSome (feed joined.now) (λ f. Feeders self.now.parts.now self.now.connections.now self.now.from self.now.i f.sink) }
         ensures { Decides result (FedBefore self.now.connections.now self.now.i joined.now) }
     {
+        // A match: where feeders begin is known of the feed alone, and a closure would be told nothing of it.
         match feed_of(joined) {
             Some(bits) => is_fed(
                 &self.connections[self.first_feeder(bits.sink)..self.i],

@@ -4,7 +4,7 @@ ghost use Rattle.bundle.specs.Layout.{Layout};
 
 use crate::page::Page;
 use bundle::{Bundle, Entry};
-use catalogue::{Catalogue, ConnectionRecord, Counts, FarEnd, PartRecord, PinRecord, Side};
+use catalogue::{Catalogue, ConnectionRecord, FarEnd, PartRecord, PinRecord, Side};
 use std::alloc::{AllocError, Global};
 
 /// Appends a pin, with its width if that is not 1.
@@ -110,14 +110,7 @@ pub(crate) fn outline_text(
         put_chip(&mut page, k, &entry, catalogue)?;
     }
     let chips = bundle.count();
-    let Counts {
-        pins,
-        parts,
-        connections,
-    } = catalogue.counts();
-    write!(
-        page,
-        "{chips} chips, {pins} pins, {parts} parts, {connections} connections\n"
-    )?;
+    let counts = catalogue.counts();
+    write!(page, "{chips} chips, {counts}\n")?;
     Ok(page.into_bytes())
 }

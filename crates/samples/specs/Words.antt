@@ -14,7 +14,7 @@ pub record Writes (word bytes : List ℕ) : Type 0 where
   pub marked : word ≡ 120 ∷ digits
   pub means : decode_of digits ≡ Ok bytes
 
--- the words of the line, between white space, write these texts
+-- the line is words that write these texts, one behind another, with white space, or nothing, in front of each and behind the last
 pub data Lists : List ℕ → List (List ℕ) → Type 0 where
   none : (gap : List ℕ) → NoCharPasses is_not_whitespace gap → Lists gap []
   more : (gap word rest text : List ℕ) (texts : List (List ℕ)) → NoCharPasses is_not_whitespace gap → NoCharPasses is_whitespace word → Writes word text → Lists rest texts → Lists (gap ++ (word ++ rest)) (text ∷ texts)
