@@ -81,6 +81,7 @@ fn read_files(rt: &HostRuntime, paths: &[String]) -> Result<Vec<Vec<u8>>, Stop> 
 }
 
 /// The place behind the last `/`, or 0.
+// `report` finds where a line begins by the same chain: a third crate for it would be longer than both.
 fn file_start(path: &[u8]) -> usize
     ensures within { result ≤ length path.now }
     ensures begins { (result ≡ 0) ⊎ ((k : ℕ) × (suc k ≡ result) × (slice_index path.now k ≡ 47)) }
@@ -190,6 +191,7 @@ fn check_bundle(rt: &HostRuntime, bundle: &str, rom: Option<&str>) -> Result<(),
 }
 
 /// Does what the words after the program's name say.
+// A `match`: a table of commands would want one type for what each is given.
 fn dispatch(rt: &HostRuntime, words: &[String]) -> Result<(), Stop> {
     let [command, rest @ ..] = words else {
         print!(rt; "{USAGE}")?;

@@ -10,6 +10,7 @@ use bundle::Bundle;
 use std::alloc::Global;
 
 /// What `list` answers of the bytes: the table of a bundle, or its fault.
+// Here and below, allocator and bytes are no struct: whatever allocates takes the allocator first.
 pub fn list(heap: Global, bytes: &[u8]) -> Result<Vec<u8>, Refusal>
     ensures { MatchResult result
         (λ v. Layout bytes.now × (v.items ≡ listed bytes.now))
