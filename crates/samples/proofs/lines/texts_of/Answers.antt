@@ -14,7 +14,7 @@ loop-word-preserved c = λ texts rest.
     let text = vec_items c.in_ok-decode.field-0 in
     let step = c.in-Some.ensures.steps in
     let longer = ap (map vec_items) c.in_ok-push.ensures.items ∙ map-append vec_items (vec_items c.loop-word.texts) (c.in_ok-decode.field-0 ∷ []) in
-    let here = c.loop-word.invariant (text ∷ texts) (subst (λ l. Lists l (text ∷ texts)) (sym step.1) (more step.0 c.in-Some.word.now _ text texts step.3 step.4 c.in_ok-decode.ensures rest)) in
+    let here = c.loop-word.invariant (text ∷ texts) (subst (λ l. Lists l (text ∷ texts)) (sym step.1) (more step.0 c.in-Some.word.now _ text texts step.3 step.4 step.5 c.in_ok-decode.ensures rest)) in
     subst (Lists c.args.line.now) (sym (ap (λ l. l ++ texts) longer ∙ append_assoc (map vec_items (vec_items c.loop-word.texts)) (text ∷ []) texts)) here
 
 pub returns : goal.returns
