@@ -46,6 +46,7 @@ fn print_verdicts(rt: &HostRuntime, verdicts: Verdicts) -> io::Result<()> {
     }
 }
 
+// The loop is that of `readings`: it is too short to be worth a closure for what is done with a bundle.
 fn main(rt: HostRuntime) -> Result<(), Stop> {
     let heap = rt.alloc();
     let mut room = Room::new();

@@ -24,6 +24,7 @@ impl From<AllocError> for Refusal {
 }
 
 /// The refusal of a bundle for its fault, and for the rule of its layout that is broken if that is it.
+// No `ensures`: that the answer is a refusal is its type, and no contract fixes the words.
 pub fn refused(heap: Global, bytes: &[u8], fault: Fault) -> Refusal {
     fault_text(heap, bytes, fault).map_or_else(Refusal::from, Refusal::Told)
 }
