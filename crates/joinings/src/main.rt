@@ -5,7 +5,9 @@
 //! the answers that are expected.
 #![tactic(auto)]
 
-use catalogue::{Catalogue, Counts, Room};
+use catalogue::{
+    CONNECTIONS, Catalogue, ConnectionRecord, Counts, PARTS, PINS, PartRecord, PinRecord, Record,
+};
 use fault::Fault;
 use joiner::join;
 use kit::{Atoms, Pair, Rom};
@@ -49,8 +51,10 @@ fn print_verdicts(rt: &HostRuntime, verdicts: Verdicts) -> io::Result<()> {
 // The loop is that of `readings`: it is too short to be worth a closure for what is done with a bundle.
 fn main(rt: HostRuntime) -> Result<(), Stop> {
     let heap = rt.alloc();
-    let mut room = Room::new();
-    let mut catalogue = room.catalogue();
+    let mut pins = vec![in heap; PinRecord::BLANK; PINS]?;
+    let mut parts = vec![in heap; PartRecord::BLANK; PARTS]?;
+    let mut connections = vec![in heap; ConnectionRecord::BLANK; CONNECTIONS]?;
+    let mut catalogue = Catalogue::new(&mut pins, &mut parts, &mut connections);
     for line in rt.lines(heap) {
         let bundle = bundle_of(heap, line?.as_str())?;
         print_verdicts(&rt, judge(bundle.as_slice(), &mut catalogue))?;

@@ -4,7 +4,9 @@
 //! the answers that are expected.
 #![tactic(auto)]
 
-use catalogue::{Counts, Room};
+use catalogue::{
+    CONNECTIONS, Catalogue, ConnectionRecord, Counts, PARTS, PINS, PartRecord, PinRecord, Record,
+};
 use fault::Fault;
 use reader::read;
 use samples::{Stop, bundle_of, print_fault};
@@ -25,8 +27,10 @@ fn print_verdict(rt: &HostRuntime, verdict: Result<Counts, Fault>) -> io::Result
 
 fn main(rt: HostRuntime) -> Result<(), Stop> {
     let heap = rt.alloc();
-    let mut room = Room::new();
-    let mut catalogue = room.catalogue();
+    let mut pins = vec![in heap; PinRecord::BLANK; PINS]?;
+    let mut parts = vec![in heap; PartRecord::BLANK; PARTS]?;
+    let mut connections = vec![in heap; ConnectionRecord::BLANK; CONNECTIONS]?;
+    let mut catalogue = Catalogue::new(&mut pins, &mut parts, &mut connections);
     for line in rt.lines(heap) {
         let bundle = bundle_of(heap, line?.as_str())?;
         print_verdict(&rt, read(bundle.as_slice(), &mut catalogue))?;

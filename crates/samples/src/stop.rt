@@ -1,9 +1,7 @@
 //! Why a program over samples ends early.
 ghost use Rattle.std.specs.Prelude.{◌≡◌};
 ghost use Rattle.samples.specs.declared.stop.Stop.TheVariants.{Memory, Stream, Unpacked};
-ghost use Rattle.samples.specs.Words.{from_hex};
 
-use hex::FromHexError;
 use packer::PackFault;
 use std::alloc::{AllocError, AllocFailed};
 use std::io;
@@ -15,8 +13,6 @@ pub enum Stop {
     Memory,
     /// A stream could not be read or written.
     Stream,
-    /// A word of a line is not `x` and bytes in hex.
-    Unwritten,
     /// The texts of a line make no bundle.
     Unpacked,
 }
@@ -50,16 +46,5 @@ impl From<PackFault> for Stop {
 
     fn from(_e: PackFault) -> Stop {
         Stop::Unpacked
-    }
-}
-
-impl From<FromHexError> for Stop {
-    ghost from_gives = { λ e r. r ≡ from_hex e };
-
-    fn from(e: FromHexError) -> Stop {
-        match e {
-            FromHexError::OutOfMemory => Stop::Memory,
-            _ => Stop::Unwritten,
-        }
     }
 }

@@ -1,5 +1,5 @@
 //! Two texts in hex, and the bundle of them.
-use crate::{Stop, bundle_of, decode, sources_of};
+use crate::{bundle_of, decode, sources_of};
 use std::test::*;
 
 /// The number of entries, a row for each, and the texts, which start at 2 + 2 * 36 = 74.
@@ -14,9 +14,11 @@ fn words(rt: HostRuntime) -> Result<(), Fail> {
     let heap = rt.alloc();
     assert_eq!(rt; decode(heap, "x")?.as_slice(), b"".as_slice());
     assert_eq!(rt; decode(heap, "x2f2a7f")?.as_slice(), b"/*\x7f".as_slice());
-    assert!(rt; matches!(decode(heap, "2f"), Err(Stop::Unwritten)));
-    assert!(rt; matches!(decode(heap, "x2"), Err(Stop::Unwritten)));
-    assert!(rt; matches!(decode(heap, "x2g"), Err(Stop::Unwritten)));
+    assert_eq!(rt; decode(heap, "2f")?.as_slice(), b"".as_slice());
+    assert_eq!(rt; decode(heap, "x2")?.as_slice(), b"".as_slice());
+    assert_eq!(rt; decode(heap, "x2g2F7")?.as_slice(), b"  ".as_slice());
+    assert_eq!(rt; decode(heap, "X2f")?.as_slice(), b"/".as_slice());
+    assert_eq!(rt; decode(heap, "\u{e9}41")?.as_slice(), b"\x04".as_slice());
     Ok(())
 }
 
