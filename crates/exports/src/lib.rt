@@ -6,7 +6,9 @@ ghost use Rattle.fault.specs.Faults.{number_of};
 ghost use Rattle.kit.specs.Atoms.{atoms};
 ghost use Rattle.exports.specs.Answers.{Answered, Judged};
 
-use catalogue::{Counts, Room};
+use catalogue::{
+    CONNECTIONS, Catalogue, ConnectionRecord, Counts, PARTS, PINS, PartRecord, PinRecord, Record,
+};
 use fault::Fault;
 use joiner::join;
 use kit::Atoms;
@@ -27,8 +29,10 @@ fn number(verdict: Result<Counts, Fault>) -> u32
 pub extern "C" fn tethersecond_read(bytes: &[u8]) -> u32
     ensures { Answered bytes.now result }
 {
-    let mut room = Room::new();
-    let mut catalogue = room.catalogue();
+    let mut pins = [PinRecord::BLANK; PINS];
+    let mut parts = [PartRecord::BLANK; PARTS];
+    let mut connections = [ConnectionRecord::BLANK; CONNECTIONS];
+    let mut catalogue = Catalogue::over(&mut pins, &mut parts, &mut connections);
     number(read(bytes, &mut catalogue))
 }
 
@@ -38,7 +42,9 @@ pub extern "C" fn tethersecond_read(bytes: &[u8]) -> u32
 pub extern "C" fn tethersecond_join(bytes: &[u8]) -> u32
     ensures { Judged atoms bytes.now result }
 {
-    let mut room = Room::new();
-    let mut catalogue = room.catalogue();
+    let mut pins = [PinRecord::BLANK; PINS];
+    let mut parts = [PartRecord::BLANK; PARTS];
+    let mut connections = [ConnectionRecord::BLANK; CONNECTIONS];
+    let mut catalogue = Catalogue::over(&mut pins, &mut parts, &mut connections);
     number(join(&Atoms, bytes, &mut catalogue))
 }

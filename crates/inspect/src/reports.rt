@@ -6,7 +6,9 @@ ghost use Rattle.report.specs.Refusals.{WhenTold};
 ghost use Rattle.inspect.specs.Checks.{Joined, Unjoined};
 
 use bundle::Bundle;
-use catalogue::{Counts, Room};
+use catalogue::{
+    CONNECTIONS, Catalogue, ConnectionRecord, Counts, PARTS, PINS, PartRecord, PinRecord, Record,
+};
 use joiner::join;
 use kit::Kit;
 use report::{Refusal, refused};
@@ -28,8 +30,10 @@ pub fn check<K: Kit>(heap: Global, kit: &K, bytes: &[u8]) -> Result<Vec<u8>, Ref
         (λ _. Joined (K.Kit.model kit.now) bytes.now)
         (λ r. WhenTold r (Unjoined (K.Kit.model kit.now) bytes.now room)) }
 {
-    let mut room = Room::new();
-    let mut catalogue = room.catalogue();
+    let mut pins = [PinRecord::BLANK; PINS];
+    let mut parts = [PartRecord::BLANK; PARTS];
+    let mut connections = [ConnectionRecord::BLANK; CONNECTIONS];
+    let mut catalogue = Catalogue::over(&mut pins, &mut parts, &mut connections);
     match join(kit, bytes, &mut catalogue) {
         Ok(counts) => Ok(summary(heap, bytes, counts)?),
         Err(fault) => Err(refused(heap, bytes, fault)),
