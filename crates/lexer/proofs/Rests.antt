@@ -4,7 +4,7 @@ use Rattle.std.specs.List.{between}
 use Rattle.std.proofs.lemmas.List.{get_or-drop}
 use Rattle.text.specs.Names.{byte}
 use Rattle.lexer.specs.declared.tokens.Token.{Token}
-use Rattle.lexer.specs.Gaps.{Separator, one, line, block}
+use Rattle.lexer.specs.Gaps.{Separator, one, line, block, Gap}
 use Rattle.lexer.specs.Tokens.{Spells, Stands}
 
 -- s from i on and t from j on are the same
@@ -47,3 +47,10 @@ module _ (s t : List ℕ) (i j : ℕ) (e : drop i s ≡ drop j t) (m : i ≤ len
         spells = subst (λ b. Spells b u) bytes x.spells;
         whole = grind (arith, same i j, same k l, x.whole, x.after);
       }
+
+-- where r is what is left of s, its length tells how far the gap has come
+pub left : (s r : List ℕ) (p i : ℕ) → r ≡ drop i s → i ≤ length s → Gap s p i → (length r ≤ length s) × (r ≡ drop (length s - length r) s) × Gap s p (length s - length r)
+left s r p i e m g =
+    let long = ap length e ∙ length-drop i s in
+    let far : i ≡ length s - length r = omega (arith, long) in
+    (omega (arith, long), e ∙ ap (λ k. drop k s) far, subst (Gap s p) far g)

@@ -8,6 +8,9 @@ ghost use Rattle.lexer.specs.Tokens.{Numeral, Spells, Stands};
 use crate::tokens::Token;
 use text::Keyword;
 
+/// The largest number that a text may hold.
+const MAX_NUMBER: u32 = 65_535;
+
 /// How many bytes stand in front of the first `*/`, if there is one.
 fn comment_len(text: &[u8]) -> Option<usize>
     ensures open { IfNone result ((k : ℕ) → Pair 42 47 text.now k → ⊥) }
@@ -24,10 +27,10 @@ fn separator_len(text: &[u8]) -> Option<usize>
     ensures some { IfSome result (λ k. Separator text.now 0 k) }
     ensures within { IfSome result (λ k. (0 < k) × (k ≤ length text.now)) }
 {
-    match text {
-        [b' ' | b'\t' | b'\r' | b'\n', ..] => Some(1),
-        [b'/', b'/', line @ ..] => Some(2 + text::line_len(line)),
-        [b'/', b'*', rest @ ..] => Some(4 + comment_len(rest)?),
+    match text.split_first()? {
+        (b' ' | b'\t' | b'\r' | b'\n', _) => Some(1),
+        (b'/', [b'/', line @ ..]) => Some(2 + text::line_len(line)),
+        (b'/', [b'*', rest @ ..]) => Some(4 + comment_len(rest)?),
         _ => None,
     }
 }
@@ -39,11 +42,11 @@ pub fn skip(text: &[u8], start: usize) -> usize
     ensures gap { Gap text.now start result }
     ensures all { (k : ℕ) → Separator text.now result k → ⊥ }
 {
-    let mut i = start;
-    while let Some(len) = separator_len(&text[i..]) {
-        i += len;
+    let mut rest = &text[start..];
+    while let Some(len) = separator_len(rest) {
+        rest = &rest[len..];
     }
-    i
+    text.len() - rest.len()
 }
 
 /// How many letters and digits stand in front.
@@ -58,12 +61,22 @@ fn word_len(text: &[u8]) -> usize
 }
 
 /// The number that the bytes write, if they are digits and it is small enough.
+// `parse` takes a `str`, and to see that the bytes are one is a pass of its own.
 fn number(bytes: &[u8]) -> Option<u16>
-    requires some { 0 < length bytes.now }
-    requires word { Word bytes.now }
+    requires { 0 < length bytes.now }
     ensures { MatchOption result ((n : ℕ) → Numeral bytes.now n → ⊥) (λ n. Numeral bytes.now n) }
 {
-    std::str::from_utf8(bytes).ok()?.parse().ok()
+    let mut n: u32 = 0;
+    for b in bytes {
+        if !b.is_ascii_digit() {
+            return None;
+        }
+        n = n * 10 + (*b - b'0') as u32;
+        if n > MAX_NUMBER {
+            return None;
+        }
+    }
+    Some(n as u16)
 }
 
 /// The token that a run of letters and digits is, if it is one.

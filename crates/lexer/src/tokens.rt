@@ -80,7 +80,7 @@ impl From<Keyword> for Token<'_> {
 
 impl Kind {
     /// Whether it is this kind.
-    // A derive carries no contract: this one says what `==` means.
+    // What a derive promises is not written: this says what `==` means.
     pub fn is(self, other: Kind) -> bool
         ensures { Decides result (self ≡ other) }
     {
