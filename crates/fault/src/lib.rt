@@ -51,7 +51,7 @@ pub enum Cause {
 
 impl Cause {
     /// Whether it is this cause.
-    // A derive carries no contract: this one says what `==` means.
+    // What a derive promises is not written: this says what `==` means.
     pub fn is(self, other: Cause) -> bool
         ensures { Decides result (self ≡ other) }
     {

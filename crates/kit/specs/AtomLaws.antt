@@ -3,7 +3,7 @@ use Rattle.std.specs.Prelude.{◌≡◌, ℕ, zero, suc, ◌-◌, ◌*◌, ◌^�
 use Rattle.std.proofs.Common.{rules, ap₂, true≢false, arith}
 use Rattle.kit.specs.Bits.{bit, Agree}
 use Rattle.kit.specs.Models.{Unknown, Keeps, Sound}
-use Rattle.kit.specs.HeaderLaws.{named_below, header_placed, header_apart}
+use Rattle.kit.specs.HeaderLaws.{named_below, widths, header_placed, header_apart}
 use Rattle.kit.specs.Atoms.{nand, dff, atom_names, atom_next, atom_out, atom_waits, atoms}
 
 unknown : (k : ℕ) → 2 ≤ k → Unknown atoms k
@@ -36,8 +36,8 @@ keeps zero h = record {
   outputs_most = omega arith;
   inputs_most = omega arith;
   out_within = λ i s. omega arith;
-  placed = header_placed nand refl refl;
-  apart = header_apart nand refl refl;
+  placed = header_placed nand (widths nand.ins refl) (widths nand.outs refl);
+  apart = header_apart nand (widths nand.ins refl) (widths nand.outs refl);
   still = λ e i s. refl;
   steady = nand_steady;
 }
@@ -46,8 +46,8 @@ keeps (suc zero) h = record {
   outputs_most = omega arith;
   inputs_most = omega arith;
   out_within = λ i s. omega arith;
-  placed = header_placed dff refl refl;
-  apart = header_apart dff refl refl;
+  placed = header_placed dff (widths dff.ins refl) (widths dff.outs refl);
+  apart = header_apart dff (widths dff.ins refl) (widths dff.outs refl);
   still = λ e. absurd (true≢false e);
   steady = λ b l i j s same. refl;
 }

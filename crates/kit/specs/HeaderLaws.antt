@@ -14,7 +14,8 @@ use Rattle.kit.specs.Headers.{Listed, Header, bits, sought, pin_of, Widths, narr
 pub named_below : (names : List (List ℕ)) (name : List ℕ) (k : ℕ) → position (bytes_eq name) names ≡ Some k → k < length names
 named_below names name k e = (position-Some (bytes_eq name) names k [] e).0
 
-widths : (ls : List Listed) → narrow ls ≡ true → Widths ls
+-- where the widths are numerals, the test computes
+pub widths : (ls : List Listed) → narrow ls ≡ true → Widths ls
 widths [] e = tt
 widths (l ∷ ls) e = let later = widths ls in grind (arith, nat_tests)
 
@@ -39,13 +40,7 @@ sought_apart side first (l ∷ ls) w x y p q b in_p in_q ne e d =
     let behind_y = stands side (first + l.width) ls w.2 y q in
     grind (arith, bytes_eq-Decides x l.name, bytes_eq-Decides y l.name)
 
-module _ (h : Header) (narrow_ins : narrow h.ins ≡ true) (narrow_outs : narrow h.outs ≡ true) where
-  ins : Widths h.ins
-  ins = widths h.ins narrow_ins
-
-  outs : Widths h.outs
-  outs = widths h.outs narrow_outs
-
+module _ (h : Header) (ins : Widths h.ins) (outs : Widths h.outs) where
   pub header_placed : (name : List ℕ) (p : Pin) → pin_of h name ≡ Some p → Placed p (on p.side (bits h.ins) (bits h.outs))
   header_placed name p e =
       let inward = stands In 0 h.ins ins name p in

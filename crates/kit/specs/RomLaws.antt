@@ -5,7 +5,7 @@ use Rattle.std.proofs.lemmas.Bool.Decides.{nat_tests}
 use Rattle.kit.specs.Bits.{bit, Agree}
 use Rattle.kit.specs.Masks.{field_same}
 use Rattle.kit.specs.Models.{Unknown, Keeps, Sound}
-use Rattle.kit.specs.HeaderLaws.{named_below, header_placed, header_apart}
+use Rattle.kit.specs.HeaderLaws.{named_below, widths, header_placed, header_apart}
 use Rattle.kit.specs.Roms.{rom_names, rom_header, rom_out, rom_waits, rom}
 
 unknown : (words : List ℕ) (k : ℕ) → 1 ≤ k → Unknown (rom words) k
@@ -34,8 +34,8 @@ keeps words zero h = record {
   outputs_most = omega arith;
   inputs_most = omega arith;
   out_within = λ i s. omega arith;
-  placed = header_placed (rom_header 0) refl refl;
-  apart = header_apart (rom_header 0) refl refl;
+  placed = header_placed (rom_header 0) (widths (rom_header 0).ins refl) (widths (rom_header 0).outs refl);
+  apart = header_apart (rom_header 0) (widths (rom_header 0).ins refl) (widths (rom_header 0).outs refl);
   still = λ e i s. refl;
   steady = steady words;
 }

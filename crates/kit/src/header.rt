@@ -24,6 +24,7 @@ pub struct Header {
 
 /// How many bits the pins of a side have.
 #[tactic(auto, using(crate::proofs::Widths::bits_sum))]
+#[inline(always)]
 fn width_of(pins: &[Listed]) -> usize
     requires { bits (listed pins.now) ≤ 64 }
     ensures { result ≡ bits (listed pins.now) }
@@ -32,6 +33,7 @@ fn width_of(pins: &[Listed]) -> usize
 }
 
 /// The pin for a name on a side.
+#[inline(always)]
 fn sought(side: Side, pins: &[Listed], name: &[u8]) -> Option<Pin>
     requires { bits (listed pins.now) ≤ 64 }
     ensures { result ≡ sought side 0 (listed pins.now) name.now }
@@ -53,6 +55,7 @@ fn sought(side: Side, pins: &[Listed], name: &[u8]) -> Option<Pin>
 
 impl Header {
     /// The place among headers of the first with a name, or none.
+    #[inline(always)]
     pub fn find(headers: &[Header], name: &[u8]) -> Option<usize>
         ensures { result ≡ position (λ (h : Header). bytes_eq name.now h.name.now) headers.now }
     {
@@ -62,6 +65,7 @@ impl Header {
     }
 
     /// The pin for a name: an input, or else an output.
+    #[inline(always)]
     pub fn pin(&self, name: &[u8]) -> Option<Pin>
         ensures { result ≡ pin_of (header self.now.ins.now self.now.outs.now) name.now }
     {
@@ -69,6 +73,7 @@ impl Header {
     }
 
     /// How many bits a kind with this header has, and whether it is clocked.
+    #[inline(always)]
     pub fn size(&self) -> Size
         ensures inputs { result.inputs ≡ bits (listed self.now.ins.now) }
         ensures outputs { result.outputs ≡ bits (listed self.now.outs.now) }

@@ -7,7 +7,7 @@ use Rattle.std.proofs.lemmas.Bool.Decides.{nat_tests}
 use Rattle.kit.specs.Bits.{bit, Agree}
 use Rattle.kit.specs.Masks.{field_same, low_bit}
 use Rattle.kit.specs.Models.{Unknown, Keeps, Sound}
-use Rattle.kit.specs.HeaderLaws.{named_below, header_placed, header_apart}
+use Rattle.kit.specs.HeaderLaws.{named_below, widths, header_placed, header_apart}
 use Rattle.samplekit.specs.Samples.{add4, split, reg8, count4, sample_names, sample_next, sample_out, sample_waits, sample}
 
 unknown : (k : ℕ) → 4 ≤ k → Unknown sample k
@@ -56,8 +56,8 @@ keeps zero h = record {
   outputs_most = omega arith;
   inputs_most = omega arith;
   out_within = λ i s. omega arith;
-  placed = header_placed add4 refl refl;
-  apart = header_apart add4 refl refl;
+  placed = header_placed add4 (widths add4.ins refl) (widths add4.outs refl);
+  apart = header_apart add4 (widths add4.ins refl) (widths add4.outs refl);
   still = λ e i s. refl;
   steady = add4_steady;
 }
@@ -66,8 +66,8 @@ keeps (suc zero) h = record {
   outputs_most = omega arith;
   inputs_most = omega arith;
   out_within = λ i s. omega arith;
-  placed = header_placed split refl refl;
-  apart = header_apart split refl refl;
+  placed = header_placed split (widths split.ins refl) (widths split.outs refl);
+  apart = header_apart split (widths split.ins refl) (widths split.outs refl);
   still = λ e i s. refl;
   steady = split_steady;
 }
@@ -76,8 +76,8 @@ keeps (suc (suc zero)) h = record {
   outputs_most = omega arith;
   inputs_most = omega arith;
   out_within = λ i s. omega arith;
-  placed = header_placed reg8 refl refl;
-  apart = header_apart reg8 refl refl;
+  placed = header_placed reg8 (widths reg8.ins refl) (widths reg8.outs refl);
+  apart = header_apart reg8 (widths reg8.ins refl) (widths reg8.outs refl);
   still = λ e. absurd (true≢false e);
   steady = λ b l i j s same. refl;
 }
@@ -86,8 +86,8 @@ keeps (suc (suc (suc zero))) h = record {
   outputs_most = omega arith;
   inputs_most = omega arith;
   out_within = λ i s. omega arith;
-  placed = header_placed count4 refl refl;
-  apart = header_apart count4 refl refl;
+  placed = header_placed count4 (widths count4.ins refl) (widths count4.outs refl);
+  apart = header_apart count4 (widths count4.ins refl) (widths count4.outs refl);
   still = λ e. absurd (true≢false e);
   steady = λ b l i j s same. refl;
 }

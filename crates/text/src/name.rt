@@ -44,6 +44,7 @@ fn ends_alike(a: &[u8], b: &[u8]) -> bool
 
 /// Whether two names are the same.
 #[tactic(auto, using(crate::proofs::Comparing::same_order, crate::proofs::Comparing::order_same))]
+#[inline(always)]
 pub fn same(a: &[u8], b: &[u8]) -> bool
     ensures same { Decides result (a.now ≡ b.now) }
     ensures value { result ≡ bytes_eq a.now b.now }
