@@ -11,10 +11,10 @@ use Rattle.catalogue.specs.declared.records.ConnectionRecord.{ConnectionRecord}
 use Rattle.joiner.specs.Meaning.{entry_of, far_named, mentions}
 use Rattle.joiner.proofs.Search.{first_none, first_some}
 
-same_true : (xs ys : List ℕ) → xs ≡ ys → bytes_eq xs ys ≡ true
+pub same_true : (xs ys : List ℕ) → xs ≡ ys → bytes_eq xs ys ≡ true
 same_true xs ys e = (bytes_eq-Decides xs ys).1 e
 
-same_false : (xs ys : List ℕ) → (xs ≡ ys → ⊥) → bytes_eq xs ys ≡ false
+pub same_false : (xs ys : List ℕ) → (xs ≡ ys → ⊥) → bytes_eq xs ys ≡ false
 same_false xs ys h = ⊎_elim (λ t. absurd (h ((bytes_eq-Decides xs ys).0 t))) (λ f. f) (cases_Bool (bytes_eq xs ys))
 
 -- a connection of another text mentions nothing of this one

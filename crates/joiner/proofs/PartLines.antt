@@ -131,8 +131,8 @@ module _ {m : Model} {s : List ℕ} {pins : List PinRecord} (parts : List PartRe
     pub next_texts : (n : ℕ) → TextFrom s n p → OtherTexts cs n (get_or cs i blank_connection).entry
     next_texts n h = others_at next_within next_stage n (next_others n h)
 
-    pub stage_out : (d : ConnectionRecord) → NextJoined m s pins with_it cs i d → Stage m s pins with_it (set cs i d) (p + 1) (i + 1)
-    stage_out d h = subst (λ (n : ℕ). Stage m s pins with_it (set cs i d) (n + 1) (i + 1)) next_own h
+    pub stage_out : (ds : List ConnectionRecord) → Stage m s pins with_it ds ((get_or cs i blank_connection).part + 1) (i + 1) → Stage m s pins with_it ds (p + 1) (i + 1)
+    stage_out ds h = subst (λ (n : ℕ). Stage m s pins with_it ds (n + 1) (i + 1)) next_own h
 
   -- the line is joined
   pub line_on : from + many ≤ i → i ≤ from + many → LineStage m s pins with_it cs (p + 1)

@@ -57,6 +57,8 @@ impl<'a, K: Kit> Scope<'a, K> {
     }
 
     /// The pin of the name that an entry's text declares.
+    // Not inlined: asked for in two places, the search would be a call of its own in each, and slower.
+    #[inline(never)]
     fn declared(&self, chip: usize, name: &[u8]) -> Option<Pin>
         requires { chip < count self.now.bundle.bytes.now }
         ensures { result ≡ declared self.now.bundle.bytes.now self.now.pins.now chip name.now }

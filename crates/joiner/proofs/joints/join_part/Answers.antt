@@ -32,7 +32,7 @@ pub join-requires-clause-others : goal.join-requires-clause-others
 join-requires-clause-others g c = lines.next_others c.args.parts.now c.args.p c.in-Some.piece c.requires.within c.loop-i.invariant c.loop-i.auto.i c.loop-i-test.true c.args.from c.requires.others
 
 pub loop-i-preserved : goal.loop-i-preserved
-loop-i-preserved g c = lines.stage_out c.args.parts.now c.args.p c.in-Some.piece c.requires.within c.loop-i.invariant c.loop-i.auto.i c.loop-i-test.true c.in_ok-connections.field-0 c.in_ok-connections.ensures
+loop-i-preserved g c = lines.stage_out c.args.parts.now c.args.p c.in-Some.piece c.requires.within c.loop-i.invariant c.loop-i.auto.i c.loop-i-test.true _ c.in_ok-connections.ensures
 
 pub returns : goal.returns
 returns g c = lines.line_on c.args.parts.now c.args.p c.in-Some.piece c.requires.within c.loop-i.invariant c.loop-i-test.false (omega (arith, c.loop-i.auto.i-end))
