@@ -1,5 +1,5 @@
 -- What connections feed.
-use Rattle.std.proofs.Common.{◌≡◌, ℕ, ◌+◌, ◌-◌, ◌<◌, ◌≤◌, Bool, true, false, List, length, get_or, Some, None, Decides, MatchBool, Option, sym, refl, ap, ◌∙◌, subst, ⊎_elim, arith, MatchOption}
+use Rattle.std.proofs.Common.{◌≡◌, ℕ, ◌+◌, ◌-◌, ◌<◌, ◌≤◌, Bool, true, false, List, length, get_or, Some, Decides, MatchBool, Option, sym, refl, ap, ◌∙◌, subst, ⊎_elim, arith, MatchOption}
 use Rattle.std.specs.List.{between, range_with_len, AllWithin, HoldsAt}
 use Rattle.std.proofs.lemmas.List.FromFn.{length-range_with_len, get_or-range_with_len}
 use Rattle.std.proofs.lemmas.List.Edits.{length-between, get_or-between}
@@ -8,21 +8,13 @@ use Rattle.catalogue.specs.declared.records.ConnectionRecord.{ConnectionRecord}
 use Rattle.catalogue.specs.Records.{blank_connection}
 use Rattle.joiner.specs.declared.feeds.Sink.{Sink}
 use Rattle.joiner.specs.declared.feeds.Feed.{Feed}
-use Rattle.joiner.specs.Feeding.{Covers, Feeds, Meet, FedIn, OpenIn, FedBefore, feed}
+use Rattle.joiner.specs.Feeding.{Covers, Feeds, FedIn, OpenIn, FedBefore, feed}
 
 -- where one bit is meant, it is that bit that is fed
 pub one_bit : (cs : List ConnectionRecord) (k : Sink) (b : ℕ) (f : FedIn cs (record { sink = k; first = b; width = 1 })) → Feeds (get_or cs f.by blank_connection) k b
 one_bit cs k b f =
     let is : f.bit ≡ b = omega (arith, f.among.1, f.among.2) in
     subst (λ (x : ℕ). Feeds (get_or cs f.by blank_connection) k x) is f.feeds
-
--- a connection that feeds bits which do not meet these feeds none of them
-pub unmet : (c : ConnectionRecord) (f g : Feed) (b : ℕ) → Some f ≡ feed c → (Meet f g → ⊥) → Feeds c g.sink b → Covers g g.sink b → ⊥
-unmet c f g b e never h k = never (record { bit = b; left = subst (λ (o : Option Feed). MatchOption o ⊥ (λ x. Covers x g.sink b)) (sym e) h; right = k })
-
--- one that feeds nothing feeds none
-pub feedless : (c : ConnectionRecord) (k : Sink) (b : ℕ) → None ≡ feed c → Feeds c k b → ⊥
-feedless c k b e h = subst (λ (o : Option Feed). MatchOption o ⊥ (λ x. Covers x k b)) (sym e) h
 
 -- whether one of the numbers of some bits has no feeder
 pub some_unfed : (cs : List ConnectionRecord) (f : Feed) (r : Bool) →

@@ -17,7 +17,7 @@ use Rattle.joiner.specs.Meaning.{word, piece_of, piece}
 use Rattle.joiner.specs.Joined.{with_piece, joined_part}
 use Rattle.joiner.specs.Verdicts.{broken, fault_at}
 use Rattle.joiner.specs.Scopes.{OtherTexts}
-use Rattle.joiner.specs.Stages.{Stage, NextStage, LineStage, TextFrom, Unjoins}
+use Rattle.joiner.specs.Stages.{Stage, NextStage, NextJoined, LineStage, TextFrom, Unjoins}
 use Rattle.joiner.proofs.Firsts.{first_part}
 use Rattle.joiner.proofs.Stages.{upto_more, formed, entry_below, others_at}
 

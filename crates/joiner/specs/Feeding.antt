@@ -36,6 +36,12 @@ pub record Meet (f g : Feed) : Type 0 where
   pub left : Covers f g.sink bit
   pub right : Covers g g.sink bit
 
+-- the connection feeds one of the bits
+pub record FeedsAmong (c : ConnectionRecord) (f : Feed) : Type 0 where
+  pub bit : ℕ
+  pub feeds : Feeds c f.sink bit
+  pub among : Covers f f.sink bit
+
 -- one of the connections feeds one of the bits
 pub record FedIn (cs : List ConnectionRecord) (f : Feed) : Type 0 where
   pub by : ℕ

@@ -1,6 +1,6 @@
 //! What connections feed: input bits of parts, output bits of chips, and internal pins.
 ghost use Rattle.std.specs.Prelude.{◌≡◌, ℕ, ◌+◌, ◌<◌, ◌≤◌, length, Decides};
-ghost use Rattle.joiner.specs.Feeding.{Meet, FedIn, OpenIn, feed};
+ghost use Rattle.joiner.specs.Feeding.{FeedsAmong, Meet, FedIn, OpenIn, feed};
 
 use catalogue::{ConnectionRecord, Joint, Side, Target};
 
@@ -78,19 +78,18 @@ pub(crate) fn feed_of(connection: &ConnectionRecord) -> Option<Feed>
     }
 }
 
+/// Whether a connection feeds some of the bits.
+fn feeds(connection: &ConnectionRecord, bits: Feed) -> bool
+    ensures { Decides result (FeedsAmong connection.now bits) }
+{
+    feed_of(connection).is_some_and(|feed| feed.meets(bits))
+}
+
 /// Whether one of the connections feeds some of the bits.
-// A `for`: what is sought is one kind of sink, and by `any` each connection would be asked for all kinds.
 pub(crate) fn is_fed(connections: &[ConnectionRecord], bits: Feed) -> bool
     ensures { Decides result (FedIn connections.now bits) }
 {
-    for connection in connections {
-        if let Some(feed) = feed_of(connection) {
-            if feed.meets(bits) {
-                return true;
-            }
-        }
-    }
-    false
+    connections.iter().any(|connection| feeds(connection, bits))
 }
 
 /// Whether none of the connections feeds one of the bits.
